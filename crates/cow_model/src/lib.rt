@@ -1,16 +1,21 @@
-//! The ground of the library: plain values, the words that contracts use for them, and the answer
-//! for want of memory.
+//! The ground of the library: scripts as they are read, what they mean, and the words of contracts.
 //!
-//! Nothing here shares storage. Its types hold a script as it was read, and its `specs/` say what
-//! every other crate promises:
+//! Nothing here shares storage or runs. Its types hold plain values, and its `specs/` say what every
+//! crate above promises:
 //!
-//! - `Purse`: what a holder has to spend, and how a call moves it;
-//! - `Flat`: what a contract sees of a collection over one storage;
-//! - `Literals`, `Order`: plain atoms and their order.
+//! - `Lexis`, `Integer`, `Name`, `Script`: which statements the bytes of a script are;
+//! - `Env`, `Printed`, `Run`: what a script prints, on one thread, with a whole list for each value;
+//! - `Fronts`: what may be written of a text when a run stops early;
+//! - `Literals`, `Order`: plain atoms and their order;
+//! - `Purse`, `Flat`, `Lists`: what a contract says of a holder and of a collection over one storage.
 #![tactic(auto)]
 
 mod memory;
+mod name;
 mod plain;
+mod statement;
 
 pub use memory::NoMemory;
+pub use name::Name;
 pub use plain::{Bytes, Literal};
+pub use statement::Statement;

@@ -1,0 +1,26 @@
+-- What statements print: a list, or the word of a refusal.
+use Rattle.std.specs.Prelude.{ℕ, ℤ, List, [], ◌∷◌, ◌++◌, map, codes}
+use Rattle.std.specs.List.{flat_map}
+use Rattle.std.specs.Fmt.{signed_decimal}
+use Rattle.cow_model.specs.Lexis.{Text}
+
+-- a text and a newline
+abbrev pub line : Text → Text
+line text = text ++ 10 ∷ []
+
+-- a comma and a space, and then a text
+abbrev pub behind_comma : Text → Text
+behind_comma text = codes ", " ++ text
+
+-- the texts with commas between them
+abbrev pub separated : List Text → Text
+separated [] = []
+separated (text ∷ texts) = text ++ flat_map behind_comma texts
+
+-- the integers in decimal, with commas between them and brackets round them
+abbrev pub list_text : List ℤ → Text
+list_text items = codes "[" ++ separated (map signed_decimal items) ++ codes "]"
+
+-- the line of a refusal
+abbrev pub refusal : Text → Text
+refusal word = line (codes "! " ++ word)

@@ -1,0 +1,68 @@
+-- What a script prints: a fold over its statements, in which every value is a whole list of its own.
+use Rattle.std.specs.Prelude.{ℕ, ℤ, ◌-◌, Bool, ◌||◌, nat_lt, List, [], ◌∷◌, ◌++◌, length, codes, Option, Some, None, is_some, if◌then◌else◌}
+use Rattle.cow_model.specs.Lexis.{Text}
+use Rattle.cow_model.specs.Printed.{line, list_text, refusal}
+use Rattle.cow_model.specs.Env.{Env, max_names, start, value_of, given}
+use Rattle.cow_model.specs.declared.statement.Statement.{Statement}
+use Rattle.cow_model.specs.declared.statement.Statement.TheVariants.{Let, Assign, Append, Show}
+
+-- the environment after a statement, and what the statement prints
+pub record Outcome : Type 0 where
+  pub env : Env
+  pub text : Text
+
+-- the most elements of a value
+abbrev pub max_count : ℕ
+max_count = 65536
+
+-- a statement that is refused changes nothing
+abbrev pub refused : Env → Text → Outcome
+refused env word = record { env = env; text = refusal word }
+
+-- what a statement does with the value of a name, which has to be there
+abbrev pub with_value : Env → Option (List ℤ) → (List ℤ → Outcome) → Outcome
+with_value env None run = refused env (codes "no name")
+with_value env (Some value) run = run value
+
+-- a name may be given a value where it is there already or fewer than 64 names are
+abbrev pub has_place : Env → Text → Bool
+has_place env name = is_some (value_of name env.names) || nat_lt (length env.names) max_names
+
+-- the name stands for the value
+abbrev pub put : Env → Text → List ℤ → Outcome
+put env name value = record { env = record env { names = given name value env.names }; text = [] }
+
+-- `let`, with the value that it gives
+abbrev pub let_in : Env → Text → List ℤ → Outcome
+let_in env name value = if has_place env name then put env name value else refused env (codes "full")
+
+-- `append` to a value
+abbrev pub append_in : Env → Text → ℤ → List ℤ → Outcome
+append_in env name atom value = if nat_lt (length value) max_count then put env name (value ++ atom ∷ []) else refused env (codes "full")
+
+-- `show`, with the line that it prints
+abbrev pub show_in : Env → Text → Outcome
+show_in env shown =
+    if nat_lt env.room (length shown) then refused env (codes "text full")
+    else record { env = record env { room = env.room - length shown }; text = shown }
+
+-- what a statement does
+abbrev pub step : Env → Statement → Outcome
+step env (Let l name atoms) = let_in env name atoms
+step env (Assign l name other) = with_value env (value_of other env.names) (let_in env name)
+step env (Append l name atom) = with_value env (value_of name env.names) (append_in env name atom)
+step env (Show l name) = with_value env (value_of name env.names) (λ value. show_in env (line (list_text value)))
+
+-- the environment after statements in turn
+abbrev pub env_after : Env → List Statement → Env
+env_after env [] = env
+env_after env (s ∷ ss) = env_after (step env s).env ss
+
+-- what statements print in turn
+abbrev pub text_from : Env → List Statement → Text
+text_from env [] = []
+text_from env (s ∷ ss) = (step env s).text ++ text_from (step env s).env ss
+
+-- what a script prints
+abbrev pub text_of : List Statement → Text
+text_of ss = text_from start ss
