@@ -1,5 +1,6 @@
 -- An environment: what the names of a block stand for.
-use Rattle.std.specs.Prelude.{ℕ, ℤ, List, [], ◌∷◌, Option, Some, None, if◌then◌else◌, refl}
+use Rattle.std.specs.Prelude.{ℕ, ℤ, List, [], ◌∷◌, ◌++◌, slice_get, slice_set, position, Option, Some, None, refl}
+use Rattle.std.specs.Option.{option_map}
 use Rattle.std.specs.Coded.{Coded, code_by, coded×, coded_ℕ, coded_ℤ, coded_list}
 use Rattle.std.specs.Str.{bytes_eq}
 use Rattle.cow_model.specs.Lexis.{Text}
@@ -25,15 +26,27 @@ max_shown = 4194304
 abbrev pub start : Env
 start = record { names = []; room = max_shown }
 
+-- the place of a name among the names
+abbrev pub place_of : Text → List Entry → Option ℕ
+place_of name names = position (λ entry. bytes_eq entry.0 name) names
+
+-- the value at a place
+abbrev pub value_at : Option ℕ → List Entry → Option (List ℤ)
+value_at None names = None
+value_at (Some i) names = option_map (λ entry. entry.1) (slice_get names i)
+
 -- what a name stands for
 abbrev pub value_of : Text → List Entry → Option (List ℤ)
-value_of name [] = None
-value_of name (entry ∷ entries) = if bytes_eq entry.0 name then Some entry.1 else value_of name entries
+value_of name names = value_at (place_of name names) names
 
--- the names once a name stands for a value, where a new name comes last
+-- the names with an entry at a place, or last where there is no place for it
+abbrev pub given_at : Option ℕ → Entry → List Entry → List Entry
+given_at None entry names = names ++ entry ∷ []
+given_at (Some i) entry names = slice_set names i entry
+
+-- the names once a name stands for a value
 abbrev pub given : Text → List ℤ → List Entry → List Entry
-given name value [] = (name, value) ∷ []
-given name value (entry ∷ entries) = if bytes_eq entry.0 name then (entry.0, value) ∷ entries else entry ∷ given name value entries
+given name value names = given_at (place_of name names) (name, value) names
 
 -- how an environment is stored in a type that contracts see as one
 abbrev pub env_code : Coded Env

@@ -9,8 +9,8 @@ Text = List ℕ
 -- parts without the last one where it is empty
 abbrev pub without_empty_end : List Text → List Text
 without_empty_end [] = []
-without_empty_end (part ∷ []) = if length part == 0 then [] else part ∷ []
-without_empty_end (part ∷ next ∷ parts) = part ∷ without_empty_end (next ∷ parts)
+without_empty_end ([] ∷ []) = []
+without_empty_end (part ∷ parts) = part ∷ without_empty_end parts
 
 -- what stands between newlines, where nothing behind the last newline is no line
 unfoldable pub lines_of : Text → List Text

@@ -2,7 +2,7 @@
 use Rattle.std.specs.Prelude.{ℕ, ℤ, ◌-◌, Bool, ◌||◌, nat_lt, List, [], ◌∷◌, ◌++◌, length, codes, Option, Some, None, is_some, if◌then◌else◌}
 use Rattle.cow_model.specs.Lexis.{Text}
 use Rattle.cow_model.specs.Printed.{line, list_text, refusal}
-use Rattle.cow_model.specs.Env.{Env, max_names, start, value_of, given}
+use Rattle.cow_model.specs.Env.{Env, max_names, start, place_of, value_of, given}
 use Rattle.cow_model.specs.declared.statement.Statement.{Statement}
 use Rattle.cow_model.specs.declared.statement.Statement.TheVariants.{Let, Assign, Append, Show}
 
@@ -26,7 +26,7 @@ with_value env (Some value) run = run value
 
 -- a name may be given a value where it is there already or fewer than 64 names are
 abbrev pub has_place : Env → Text → Bool
-has_place env name = is_some (value_of name env.names) || nat_lt (length env.names) max_names
+has_place env name = is_some (place_of name env.names) || nat_lt (length env.names) max_names
 
 -- the name stands for the value
 abbrev pub put : Env → Text → List ℤ → Outcome

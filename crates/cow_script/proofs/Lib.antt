@@ -1,0 +1,4 @@
+pub mod Atoms
+pub mod Cuts
+pub mod Digits
+pub mod LinesRead
