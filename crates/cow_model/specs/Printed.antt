@@ -3,6 +3,8 @@ use Rattle.std.specs.Prelude.{ℕ, ℤ, List, [], ◌∷◌, ◌++◌, map, code
 use Rattle.std.specs.List.{flat_map}
 use Rattle.std.specs.Fmt.{signed_decimal}
 use Rattle.cow_model.specs.Lexis.{Text}
+use Rattle.cow_model.specs.declared.refusal.Refusal.{Refusal}
+use Rattle.cow_model.specs.declared.refusal.Refusal.TheVariants.{NoName, Full, TextFull}
 
 -- a text and a newline
 abbrev pub line : Text → Text
@@ -21,6 +23,12 @@ separated (text ∷ texts) = text ++ flat_map behind_comma texts
 abbrev pub list_text : List ℤ → Text
 list_text items = codes "[" ++ separated (map signed_decimal items) ++ codes "]"
 
+-- the word of a refusal
+abbrev pub word_of : Refusal → Text
+word_of NoName = codes "no name"
+word_of Full = codes "full"
+word_of TextFull = codes "text full"
+
 -- the line of a refusal
-abbrev pub refusal : Text → Text
-refusal word = line (codes "! " ++ word)
+abbrev pub refusal : Refusal → Text
+refusal why = line (codes "! " ++ word_of why)

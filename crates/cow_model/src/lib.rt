@@ -13,9 +13,11 @@
 mod memory;
 mod name;
 mod plain;
+mod refusal;
 mod statement;
 
 pub use memory::NoMemory;
 pub use name::Name;
 pub use plain::{Bytes, Literal};
+pub use refusal::Refusal;
 pub use statement::Statement;
