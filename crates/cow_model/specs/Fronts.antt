@@ -1,9 +1,13 @@
--- Texts that grow.
-use Rattle.std.specs.Prelude.{◌++◌}
-use Rattle.std.specs.Io.{StartsWith}
+-- Texts that are written in part.
+use Rattle.std.specs.Prelude.{◌≡◌, ◌++◌}
 use Rattle.cow_model.specs.Lexis.{Text}
+
+-- a text is a front of another
+abbrev pub IsFrontOf : Text → Text → Type 0
+IsFrontOf front whole = (rest : Text) × (front ++ rest ≡ whole)
 
 -- a text grew by a front of what there was to write
 pub record GrowsWithin (old new whole : Text) : Type 0 where
-  pub kept : StartsWith new old
-  pub front : StartsWith (old ++ whole) new
+  pub added : Text
+  pub front : IsFrontOf added whole
+  pub grown : new ≡ old ++ added

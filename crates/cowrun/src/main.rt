@@ -1,0 +1,49 @@
+//! The program: runs a script of integer arrays from standard input to standard output.
+//!
+//! [`cowrun`] is the top call, generic over its source and sink, and its contract is the whole table of
+//! answers. Below it stand reading ([`input`]), running ([`run`]) and writing ([`output`]). `main` only
+//! joins it to the command line and to the system's streams, which no proof speaks of.
+#![tactic(auto)]
+
+mod command;
+mod input;
+mod output;
+mod run;
+mod status;
+
+pub use command::cowrun;
+use cow_port::{ReaderSource, WriterSink};
+pub use status::Status;
+use std::alloc::{AllocError, Global};
+use std::process::ExitCode;
+use std::{env, io};
+
+// The words behind the program's name.
+fn words_given(rt: &HostRuntime) -> io::Result<Vec<String>> {
+    let mut words = Vec::new(rt.alloc());
+    for word in env::args(rt)?.skip(1) {
+        words.push(word)?;
+    }
+    Ok(words)
+}
+
+// Runs over standard input and output.
+fn run_words(rt: &HostRuntime, alloc: Global, words: &[String]) -> Result<Status, AllocError> {
+    let words: Vec<&str> = words.iter().map(|word| word.as_str()).collect(alloc)?;
+    let mut source = ReaderSource {
+        reader: rt.reader(),
+        faults: 0,
+    };
+    let mut sink = WriterSink {
+        writer: io::writer(rt),
+        faults: 0,
+    };
+    Ok(cowrun(alloc, &words, &mut source, &mut sink))
+}
+
+fn main(rt: HostRuntime) -> ExitCode {
+    let alloc = rt.alloc();
+    let words = words_given(&rt).unwrap_or(Vec::new(alloc));
+    let status = run_words(&rt, alloc, &words).unwrap_or(Status::NoMemory);
+    ExitCode::from(status)
+}
