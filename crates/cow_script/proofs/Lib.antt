@@ -1,4 +1,4 @@
 pub mod Atoms
-pub mod Cuts
+pub mod CutTexts
 pub mod Digits
 pub mod LinesRead

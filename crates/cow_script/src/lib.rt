@@ -6,12 +6,12 @@
 //! between calls, and only a growing list takes memory.
 #![tactic(auto)]
 
-mod integer;
+mod cuts;
+mod integers;
 mod name;
 mod print;
 mod read;
 mod statement;
-mod word;
 
 pub use print::put_list;
 pub use read::{ParseStop, Script, parse};

@@ -1,8 +1,8 @@
 ghost use Rattle.cow_model.specs.Script.{script_of};
 ghost use Rattle.cow_script.specs.Parse.{Parses};
 
+use crate::cuts::{next_line, next_word};
 use crate::statement::statement;
-use crate::word::{next_line, next_word};
 use cow_model::{NoMemory, Statement};
 use sqlite_items::Items;
 use std::alloc::{AllocError, AllocFailed, Global};

@@ -4,9 +4,9 @@ ghost use Rattle.std.specs.Str.{bytes_eq};
 ghost use Rattle.cow_model.specs.Lexis.{words_of};
 ghost use Rattle.cow_model.specs.Script as spec;
 
-use crate::integer::integer;
+use crate::cuts::next_word;
+use crate::integers::integer;
 use crate::name::is_name;
-use crate::word::next_word;
 use cow_model::{Name, NoMemory, Statement};
 use sqlite_items::Items;
 use std::alloc::Global;

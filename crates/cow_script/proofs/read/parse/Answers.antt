@@ -10,6 +10,6 @@ loop-text-preserved-in_ok-push c =
     let line = c.in-Some in
     let word = c.in-Some-next_word in (
       rw c.in_ok-push.ensures.items (read_more loop.statements.items loop.line loop.rest.now line.text.now line.after.now word.first.now (words_of word.words.now) c.in-Some-2.statement (script_of c.args.bytes.now)
-      loop.invariant.0 line.ensures.line word.ensures.word (sym c.in-Some-2.is ∙ c.in_ok-statement.ensures)),
+          loop.invariant.0 line.ensures.line word.ensures.word (sym c.in-Some-2.is ∙ c.in_ok-statement.ensures)),
       omega (arith, loop.invariant.1, line.ensures.shorter),
     )

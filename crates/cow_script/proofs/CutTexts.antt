@@ -46,12 +46,12 @@ pub lines_of_cut : (text : List ℕ) → 0 < length text → lines_of text ≡ b
 unfolding lines_of
 lines_of_cut text some =
     elim (cases_lt (position_or_len is_newline text) (length text)) [
-      inl lt ↦
-        let rest : 0 < length (slice_split is_newline (after_first is_newline text)) = omega (arith, length-slice_split is_newline (after_first is_newline text)) in
-        ap without_empty_end (slice_split_first is_newline text 0 lt) ∙ line_before (before_first is_newline text) _ rest
-    | inr none ↦
-        let whole = no_cut is_newline text none in
-        rw (whole.0, whole.1) (ap without_empty_end (one_part is_newline text none) ∙ one_line text some)
+      | inl lt ↦
+          let rest : 0 < length (slice_split is_newline (after_first is_newline text)) = omega (arith, length-slice_split is_newline (after_first is_newline text)) in
+          ap without_empty_end (slice_split_first is_newline text 0 lt) ∙ line_before (before_first is_newline text) _ rest
+      | inr none ↦
+          let whole = no_cut is_newline text none in
+          rw (whole.0, whole.1) (ap without_empty_end (one_part is_newline text none) ∙ one_line text some)
     ]
 
 -- a line is its first word, where it has one, and the words behind its first space
@@ -59,10 +59,10 @@ words_of_cut : (line : List ℕ) → words_of line ≡ filter is_some_word (befo
 unfolding words_of
 words_of_cut line =
     elim (cases_lt (position_or_len is_space line) (length line)) [
-      inl lt ↦ ap (filter is_some_word) (slice_split_first is_space line 0 lt)
-    | inr none ↦
-        let whole = no_cut is_space line none in
-        rw (whole.0, whole.1) (ap (filter is_some_word) (one_part is_space line none))
+      | inl lt ↦ ap (filter is_some_word) (slice_split_first is_space line 0 lt)
+      | inr none ↦
+          let whole = no_cut is_space line none in
+          rw (whole.0, whole.1) (ap (filter is_some_word) (one_part is_space line none))
     ]
 
 -- words that begin with no word
