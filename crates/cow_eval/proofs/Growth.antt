@@ -1,5 +1,5 @@
 -- Texts that grow statement by statement.
-use Rattle.std.proofs.Common.{◌≡◌, List, ◌++◌, length, take, drop, ap, sym, ◌∙◌, subst, append_assoc, take-append-drop}
+use Rattle.std.proofs.Common.{◌≡◌, ◌++◌, length, drop, ap, sym, ◌∙◌, append_assoc, take-append-drop}
 use Rattle.std.specs.Io.{StartsWith}
 use Rattle.std.proofs.lemmas.List.{append_cancel_left}
 use Rattle.cow_model.specs.Lexis.{Text}

@@ -1,6 +1,6 @@
 -- Worked rows: what the definitions say of small scripts, computed by the check itself.
-use Rattle.std.proofs.Common.{◌≡◌, ℕ, ℤ, pos, negsuc, List, []}
-use Rattle.std.specs.Prelude.{refl, codes, Option, Some, None, Result, Ok, Err}
+use Rattle.std.proofs.Common.{◌≡◌, ℕ, pos, negsuc, List, []}
+use Rattle.std.specs.Prelude.{refl, codes, Some, None, Result, Ok, Err}
 use Rattle.std.specs.Fmt.{digits}
 use Rattle.cow_model.specs.Lexis.{Text, lines_of, words_of}
 use Rattle.cow_model.specs.Integer.{integer_of}

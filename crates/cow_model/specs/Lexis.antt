@@ -1,5 +1,5 @@
 -- The lines of a script and the words of a line.
-use Rattle.std.specs.Prelude.{ℕ, Bool, not, List, [], ◌∷◌, filter, if◌then◌else◌, ◌==◌, length}
+use Rattle.std.specs.Prelude.{ℕ, not, List, [], ◌∷◌, filter, ◌==◌, length}
 use Rattle.std.specs.List.{slice_split}
 
 -- the bytes of a text

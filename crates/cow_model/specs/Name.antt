@@ -17,9 +17,11 @@ goes_on b = is_letter b || is_digit b || b == 95
 abbrev pub reserved : List Text
 reserved = codes "array" ∷ codes "slice" ∷ codes "deque" ∷ codes "set" ∷ codes "dict" ∷ codes "oset" ∷ codes "odict" ∷ codes "heap" ∷ codes "tset" ∷ codes "tdict" ∷ codes "copy" ∷ codes "take" ∷ codes "as" ∷ []
 
+-- whether a word is one of these
 unfoldable pub is_reserved : Text → Bool
 is_reserved word = list_any (λ r. bytes_eq r word) reserved
 
+-- whether a word is a name
 abbrev pub is_name : Text → Bool
 is_name [] = false
 is_name (b ∷ bs) = is_letter b && list_all goes_on bs && nat_le (length bs) 15 && not (is_reserved (b ∷ bs))

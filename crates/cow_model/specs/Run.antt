@@ -1,5 +1,5 @@
 -- What a script prints: a fold over its statements, in which every value is a whole list of its own.
-use Rattle.std.specs.Prelude.{ℕ, ℤ, ◌-◌, Bool, ◌||◌, nat_lt, List, [], ◌∷◌, ◌++◌, length, codes, Option, Some, None, is_some, if◌then◌else◌}
+use Rattle.std.specs.Prelude.{ℕ, ℤ, ◌-◌, Bool, ◌||◌, nat_lt, List, [], ◌∷◌, ◌++◌, length, Option, Some, None, is_some, if◌then◌else◌}
 use Rattle.cow_model.specs.Lexis.{Text}
 use Rattle.cow_model.specs.Printed.{line, list_text, refusal}
 use Rattle.cow_model.specs.Env.{Entry, Env, max_names, start, place_of, value_of, given}

@@ -1,5 +1,5 @@
 -- What a script says: its statements, or the first line that is of no form.
-use Rattle.std.specs.Prelude.{ℕ, ℤ, ◌+◌, Bool, ◌&&◌, nat_le, List, [], ◌∷◌, length, codes, ◌==◌, Option, Some, None, Result, Ok, Err, if◌then◌else◌}
+use Rattle.std.specs.Prelude.{ℕ, ℤ, ◌+◌, ◌&&◌, nat_le, List, [], ◌∷◌, length, codes, ◌==◌, Option, Some, None, Result, Ok, Err, if◌then◌else◌}
 use Rattle.std.specs.Option.{option_map}
 use Rattle.std.specs.Str.{bytes_eq}
 use Rattle.cow_model.specs.Lexis.{Text, lines_of, words_of}

@@ -4,8 +4,10 @@ use Rattle.cow_model.specs.Run as run
 use Rattle.cow_plain.specs.declared.environment.Environment.{Environment}
 use Rattle.cow_plain.specs.declared.step.Outcome.{Outcome}
 
+-- an environment
 abbrev pub env_of : Environment → Env
 env_of e = record { names = e.names; room = e.room }
 
+-- an outcome
 abbrev pub outcome_of : Outcome → run.Outcome
 outcome_of o = record { env = env_of o.environment; text = o.text }

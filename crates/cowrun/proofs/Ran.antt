@@ -1,10 +1,9 @@
 -- What was written while a script ran.
-use Rattle.std.proofs.Common.{◌≡◌, ℕ, ◌+◌, ◌<◌, ◌≤◌, List, [], ◌∷◌, ◌++◌, length, take, drop, get_or, Some, None, sym, ◌∙◌, ap, append_assoc, subst, refl, inl, inr}
+use Rattle.std.proofs.Common.{◌≡◌, ℕ, ◌+◌, ◌<◌, List, ◌∷◌, ◌++◌, length, drop, get_or, sym, ◌∙◌, ap, append_assoc, refl, inl, inr}
 use Rattle.std.specs.Prelude.{Option}
 use Rattle.std.proofs.lemmas.List.{at_drop_more}
 use Rattle.std.specs.Io.KnownBytes.{Appends}
 use Rattle.cow_model.specs.Env.{Env}
-use Rattle.cow_model.specs.Fronts.{IsFrontOf}
 use Rattle.cow_model.specs.Run.{step, text_from}
 use Rattle.cow_model.specs.declared.statement.Statement.{Statement}
 use Rattle.cowrun.specs.Answer.{IsLine}

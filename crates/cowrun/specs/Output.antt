@@ -1,5 +1,5 @@
 -- What was written to a sink, from what it holds before and after, where it tells.
-use Rattle.std.specs.Prelude.{ℕ, ◌⊎◌, List, Option}
+use Rattle.std.specs.Prelude.{◌⊎◌, Option}
 use Rattle.std.specs.Io.KnownBytes.{Appends}
 use Rattle.cow_model.specs.Lexis.{Text}
 use Rattle.cow_model.specs.Fronts.{IsFrontOf}

@@ -10,6 +10,8 @@ mod input;
 mod output;
 mod run;
 mod status;
+#[cfg(test)]
+mod tests;
 
 pub use command::cowrun;
 use cow_port::{ReaderSource, WriterSink};

@@ -1,4 +1,4 @@
-use Rattle.std.proofs.Common.{◌≡◌, ◌<◌, [], length, refl, sym, arith, rules}
+use Rattle.std.proofs.Common.{◌≡◌, ◌<◌, [], length, refl, rules}
 use Rattle.std.proofs.lemmas.List.{nil_from_length}
 use Rattle.cow_model.specs.Lexis.{lines_of}
 use Rattle.cow_script.proofs.CutTexts.{lines_of_cut}

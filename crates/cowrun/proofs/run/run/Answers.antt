@@ -1,5 +1,5 @@
 use Rattle.std.proofs.Common.{refl, inl, ap, Err}
-use Rattle.cowrun.specs.Answer.{Answers, not_built_text}
+use Rattle.cowrun.specs.Answer.{not_built_text}
 use Rattle.cowrun.proofs.Ran.{line_written}
 use Rattle.cowrun.proofs.run.run.Goals as goal
 

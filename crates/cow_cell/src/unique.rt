@@ -1,0 +1,31 @@
+//! The step that tests whether a handle is the only one of its block.
+ghost use Rattle.std.specs.Prelude.{◌≡◌, ℕ, ◌+◌, ◌-◌, ◌^◌, ◌<◌, ◌≤◌, Bool, true, false, IfSome, IsSome, IsNone};
+ghost use types.Logic.{sem};
+ghost use Rattle.cow_cell.specs.Follows.{follows_unique};
+
+use crate::counted::Counted;
+use crate::units::{Stock, Units};
+use std::marker::Brand;
+use std::sync::atomic::Ordering::SeqCst;
+use std::sync::atomic::raw;
+
+impl<T, Q: Stock> Counted<T, Q> {
+    // One load. Where it finds 1, the value is lent for writing, and the handle is alone. Where it
+    // finds more, the units at hand, this handle's and another's are three parts of the stock.
+    pub(crate) fn unique(&mut self, units: &mut Units<Q>) -> Option<&mut T>
+        ensures* writes_back { sem 𝓛 (follows_unique T.row Q.row Q.Stock self.entry result) }
+        ensures told { (units.new.count ≡ units.old.count)
+            × IfSome result (λ x. x.now ≡ self.old.value)
+            × (self.old.alone ≡ true → IsSome result)
+            × (IsNone result → units.old.count + 1 < 2 ^ 62)
+            × (units.old.count < 2 ^ 62) }
+    {
+        let _ = units;
+        let at = self.at;
+        let found = unsafe { raw::load::<Brand>(&raw const (*at).count, SeqCst) };
+        if found != 1 {
+            return None;
+        }
+        unsafe { Some(&mut (*at).value) }
+    }
+}
