@@ -16,7 +16,7 @@ fnv_step hash byte = bit_xor hash byte * 16777619 % 2 ^ 32
 abbrev pub fnv : List ℕ → ℕ
 fnv bytes = fold fnv_step 2166136261 bytes
 
--- the hash of an atom
+-- the hash of an atom of this plain value
 abbrev pub literal_hash : Literal → ℕ
 literal_hash (Int x) = int_hash x
 literal_hash (Text bytes) = fnv bytes

@@ -1,0 +1,30 @@
+//! Items, which counted storage can hold, and keys, which collections can look up.
+//!
+//! An item is seen by its plain value: a `Literal`, that is an integer or a list of numbers. An item may hold
+//! one handle of counted storage, which is one unit out of its holder. `Item` says how it is copied, settled
+//! and ended, and that `copied` rises by its WEIGHT at each copy. Items have no `Clone`: in generic code
+//! `copy` is the only call that makes a second element.
+//!
+//! A `Key` is an item with a hash, an equality and an order, each a function of the plain value. So equal keys
+//! have equal hashes, `same` is equality, and `order` is total and agrees with it.
+//!
+//! - `item`: the two traits. The layer above uses their clauses alone.
+//! - `numbers`: i64 and `()` as items and keys.
+//! - `text`: `Text`, a counted text of at most 255 bytes.
+//! - `atom`: `Atom`, an integer or a text, and how it is read from a script's `Literal`.
+//! - `hash`: the hashes of integers and texts.
+//!
+//! `tests` has an item and key of a user's own: two numbers and a text.
+#![tactic(auto)]
+
+mod atom;
+mod hash;
+mod item;
+mod numbers;
+#[cfg(test)]
+mod tests;
+mod text;
+
+pub use atom::Atom;
+pub use item::{Item, Key};
+pub use text::Text;
