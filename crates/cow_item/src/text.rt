@@ -29,11 +29,13 @@ impl<Q: Stock> Model for Text<Q> {
 }
 
 impl<Q: Stock> Text<Q> {
-    /// A text of these bytes, in as many steps. `copied` stays.
+    /// A text of these bytes, in as many steps. It is alone, and `copied` stays. Answers `NoMemory` only for
+    /// want of memory, and nothing has changed then.
     pub fn new(alloc: Global, bytes: &[u8], h: &mut Holder<Q>) -> Result<Text<Q>, NoMemory>
         requires length { length bytes.now ≤ 255 }
         requires spare { 1 ≤ h.old.spare }
         ensures ok { IfOk result (λ t. t.value ≡ bytes.now) }
+        ensures alone { IfOk result (λ t. t.alone ≡ true) }
         ensures spent { OnOk result (h.new ≡ less 1 h.old) }
         ensures refused { OnErr result (h.new ≡ h.old) }
     {
