@@ -1,0 +1,404 @@
+ghost use Rattle.std.specs.Prelude.{◌≡◌, ℕ, ◌+◌, ◌-◌, ◌*◌, ◌<◌, ◌≤◌, ◌^◌, List, vec_len, [], ◌∷◌, ◌++◌, length, map, take, count_by, slice_get, slice_range, slice_set, insert, remove, swap, reverse, max, IfOk, IfErr, OnOk, OnErr, IsOk, All, option_map, IfSome, IfNone, IsTrue, ◌↔◌, true, false, if◌then◌else◌};
+ghost use Rattle.std.specs.List.{splice};
+ghost use Rattle.cow_model.specs.Purse.{Moves, less, more, unit_if};
+ghost use Rattle.cow_row.specs.RowView.{IsSound};
+ghost use Rattle.cow_model.specs.Lists.{Pays};
+ghost use Rattle.cow_model.specs.Flat.{Becomes, Stays, HasRoom, need, copies, settled};
+
+use crate::slice::ArraySlice;
+use cow_cell::{Counted, Holder, Stock};
+use cow_item::{Item, Key};
+use cow_model::NoMemory;
+use cow_row::{Row, row, storage};
+use std::alloc::Global;
+use std::marker::Model;
+
+/// A list of elements over counted storage, after Swift's `Array`. A copy shares the storage until
+/// one of the two is changed.
+#[derive(Drop)]
+pub struct Array<T: Item<Q>, Q: Stock> {
+    pub(crate) cell: Counted<Row<T>, Q>,
+    pub(crate) alloc: Global,
+}
+
+impl<T: Item<Q>, Q: Stock> Model for Array<T, Q> {
+    ghost use Rattle.std.specs.Prelude.{◌≡◌, ◌-◌, ◌≤◌, ◌<◌, ◌^◌, List, length, map, All};
+    ghost use Rattle.cow_model.specs.Flat.{Flat};
+    ghost use Rattle.cow_row.specs.RowView.{IsSound};
+    ghost use Rattle.cow_model.specs.declared.plain.Literal.{Literal};
+
+    ghost Value = { Flat (List Literal) };
+
+    ghost view = { λ a. record { value = map T.plain a.cell.value.items; alone = a.cell.alone; room = a.cell.value.capacity - length a.cell.value.items } };
+
+    ghost invariant = { λ a. IsSound T.IsSettled a.cell.value × (a.cell.value.front ≡ 0) × (length a.cell.value.items < 2 ^ 31) };
+}
+
+impl<T: Item<Q>, Q: Stock> Array<T, Q> {
+    /// An empty array.
+    pub fn new(alloc: Global, h: &mut Holder<Q>) -> Result<Array<T, Q>, NoMemory>
+        requires { 1 ≤ h.old.spare }
+        ensures ok { IfOk result (λ a. Becomes [] a) }
+        ensures spent { OnOk result (h.new ≡ less 1 h.old) }
+        ensures refused { OnErr result (h.new ≡ h.old) }
+    {
+        let row = Row::with_capacity(alloc, 0)?;
+        match Counted::new(alloc, row, h) {
+            Ok(cell) => Ok(Array { cell, alloc }),
+            Err((refused, _row)) => Err(refused),
+        }
+    }
+
+    /// An array of these items, none of them copied. Linear in their number.
+    pub fn from_vec(
+        alloc: Global,
+        items: Vec<T>,
+        h: &mut Holder<Q>,
+    ) -> Result<Array<T, Q>, (NoMemory, Vec<T>)>
+        requires growth { vec_len items < 2 ^ 31 }
+        requires spare { 1 ≤ h.old.spare }
+        ensures ok { IfOk result (λ a. Becomes (map T.plain items.items) a) }
+        ensures spent { OnOk result (h.new ≡ less 1 h.old) }
+        ensures refused { IfErr result (λ e. (e.1.items ≡ items.items) × (h.new ≡ h.old)) }
+    {
+        let row = match Row::with_capacity(alloc, items.len()) {
+            Ok(row) => row,
+            Err(refused) => return Err((refused, items)),
+        };
+        let mut cell = match Counted::new(alloc, row, h) {
+            Ok(cell) => cell,
+            Err((refused, _row)) => return Err((refused, items)),
+        };
+        match cell.sole(h) {
+            Some(row) => storage::take_items(items, row),
+            None => unreachable!(),
+        }
+        Ok(Array { cell, alloc })
+    }
+
+    /// How many elements there are.
+    pub fn count(&self) -> usize
+        ensures value { result ≡ length self.now.value }
+        ensures small { result < 2 ^ 31 }
+    {
+        self.cell.get().len()
+    }
+
+    /// Element `i`; `None` exactly where there is none. One step.
+    pub fn get(&self, i: usize) -> Option<&T>
+        ensures value { option_map (λ x. T.plain x.now) result ≡ slice_get self.now.value i }
+        ensures settled { IfSome result (λ x. T.IsSettled x.now) }
+    {
+        let row = self.cell.get();
+        if i < row.len() {
+            Some(row.get(i))
+        } else {
+            None
+        }
+    }
+
+    /// A second whole value, in one step: both show the elements, and neither is alone.
+    pub fn copy(&mut self, h: &mut Holder<Q>) -> Array<T, Q>
+        requires { 1 ≤ h.old.spare }
+        ensures same { self.new ≡ settled self.old }
+        ensures copy { result ≡ settled self.old }
+        ensures spent { h.new ≡ less 1 h.old }
+    {
+        Array {
+            cell: self.cell.share(h),
+            alloc: self.alloc,
+        }
+    }
+
+    /// The same of an array that isn't alone. Any number of threads may call it on one array.
+    pub fn copy_settled(&self, h: &mut Holder<Q>) -> Array<T, Q>
+        requires settled { self.now.alone ≡ false }
+        requires spare { 1 ≤ h.old.spare }
+        ensures copy { result ≡ self.now }
+        ensures spent { h.new ≡ less 1 h.old }
+    {
+        Array {
+            cell: self.cell.share_settled(h),
+            alloc: self.alloc,
+        }
+    }
+
+    /// Not known to be alone any more. Nothing at run time.
+    pub fn settle(&mut self)
+        ensures { self.new ≡ settled self.old }
+    {
+        self.cell.settle();
+    }
+
+    /// The handle is given back; the last one of a storage ends its items.
+    pub fn end(self, h: &mut Holder<Q>)
+        ensures moved { Moves (count_by T.is_counted self.value) 0 (more 1 h.old) h.new }
+        ensures never_less { h.old.spare + 1 ≤ h.new.spare }
+    {
+        let Array { cell, alloc: _ } = self;
+        storage::end_cell(cell, h);
+    }
+
+    /// `x` stands last. One step over many calls: a full storage at least doubles.
+    pub fn append(&mut self, x: T, h: &mut Holder<Q>) -> Result<(), (NoMemory, T)>
+        requires growth { length self.old.value + 1 < 2 ^ 31 }
+        requires spare { need (length self.old.value) ≤ h.old.spare }
+        ensures ok { OnOk result (Becomes (self.old.value ++ T.plain x ∷ []) self.new) }
+        ensures within { HasRoom 1 self.old → IsOk result × (self.new.room + 1 ≡ self.old.room) }
+        ensures doubled { self.old.room ≡ 0 → OnOk result (length self.old.value ≤ self.new.room + 1) }
+        ensures refused { IfErr result (λ e. Stays self.old self.new × (h.new ≡ h.old) × (e.1 ≡ x)) }
+        ensures paid { Pays T.is_counted T.WEIGHT self.old h.old h.new }
+    {
+        if let Err(refused) = storage::prepare(&mut self.cell, self.alloc, 1, h) {
+            return Err((refused, x));
+        }
+        let mut x = x;
+        x.settle();
+        match self.cell.sole(h) {
+            Some(row) => row.push(x),
+            None => unreachable!(),
+        }
+        Ok(())
+    }
+
+    /// `x` stands in the place of element `i`, which is handed out. One step where the storage is
+    /// unshared.
+    #[tactic(auto, using(cow_row::proofs::Runs::row_steps))]
+    pub fn set(&mut self, i: usize, x: T, h: &mut Holder<Q>) -> Result<T, (NoMemory, T)>
+        requires place { i < length self.old.value }
+        requires spare { need (length self.old.value) ≤ h.old.spare }
+        ensures ok { OnOk result (Becomes (slice_set self.old.value i (T.plain x)) self.new) }
+        ensures old { IfOk result (λ y. slice_get self.old.value i ≡ Some (T.plain y)) }
+        ensures within { self.old.alone ≡ true → IsOk result × (self.new.room ≡ self.old.room) }
+        ensures refused { IfErr result (λ e. Stays self.old self.new × (h.new ≡ h.old) × (e.1 ≡ x)) }
+        ensures paid { Pays T.is_counted T.WEIGHT self.old h.old h.new }
+    {
+        if let Err(refused) = storage::prepare(&mut self.cell, self.alloc, 0, h) {
+            return Err((refused, x));
+        }
+        let mut x = x;
+        x.settle();
+        match self.cell.sole(h) {
+            Some(row) => Ok(row.replace(i, x)),
+            None => unreachable!(),
+        }
+    }
+
+    /// `x` stands at `i`; what stood there and behind moves up.
+    #[tactic(auto, using(cow_row::proofs::Runs::row_steps))]
+    pub fn insert(&mut self, i: usize, x: T, h: &mut Holder<Q>) -> Result<(), (NoMemory, T)>
+        requires place { i ≤ length self.old.value }
+        requires growth { length self.old.value + 1 < 2 ^ 31 }
+        requires spare { need (length self.old.value) ≤ h.old.spare }
+        ensures ok { OnOk result (Becomes (insert self.old.value i (T.plain x)) self.new) }
+        ensures within { HasRoom 1 self.old → IsOk result × (self.new.room + 1 ≡ self.old.room) }
+        ensures doubled { self.old.room ≡ 0 → OnOk result (length self.old.value ≤ self.new.room + 1) }
+        ensures refused { IfErr result (λ e. Stays self.old self.new × (h.new ≡ h.old) × (e.1 ≡ x)) }
+        ensures paid { Pays T.is_counted T.WEIGHT self.old h.old h.new }
+    {
+        if let Err(refused) = storage::prepare(&mut self.cell, self.alloc, 1, h) {
+            return Err((refused, x));
+        }
+        let mut x = x;
+        x.settle();
+        match self.cell.sole(h) {
+            Some(row) => row.insert(i, x),
+            None => unreachable!(),
+        }
+        Ok(())
+    }
+
+    /// Element `i`, taken out; what stood behind moves down.
+    #[tactic(auto, using(cow_row::proofs::Runs::row_steps))]
+    pub fn remove(&mut self, i: usize, h: &mut Holder<Q>) -> Result<T, NoMemory>
+        requires place { i < length self.old.value }
+        requires spare { need (length self.old.value) ≤ h.old.spare }
+        ensures ok { OnOk result (Becomes (remove self.old.value i) self.new) }
+        ensures old { IfOk result (λ y. slice_get self.old.value i ≡ Some (T.plain y)) }
+        ensures within { self.old.alone ≡ true → IsOk result × (self.new.room ≡ self.old.room + 1) }
+        ensures refused { OnErr result (Stays self.old self.new × (h.new ≡ h.old)) }
+        ensures paid { Pays T.is_counted T.WEIGHT self.old h.old h.new }
+    {
+        storage::prepare(&mut self.cell, self.alloc, 0, h)?;
+        match self.cell.sole(h) {
+            Some(row) => Ok(row.remove(i)),
+            None => unreachable!(),
+        }
+    }
+
+    /// The last element, taken out; `None` exactly where there is none. One step where the storage is
+    /// unshared.
+    #[tactic(auto, using(cow_row::proofs::Runs::row_steps))]
+    pub fn pop_last(&mut self, h: &mut Holder<Q>) -> Result<Option<T>, NoMemory>
+        requires spare { need (length self.old.value) ≤ h.old.spare }
+        ensures last { IfOk result (λ o. IfSome o (λ x. self.old.value ≡ self.new.value ++ T.plain x ∷ [])) }
+        ensures alone { IfOk result (λ o. IfSome o (λ _. self.new.alone ≡ true)) }
+        ensures none { IfOk result (λ o. IfNone o ((self.old.value ≡ []) × (self.new ≡ self.old))) }
+        ensures empty { self.old.value ≡ [] → IsOk result }
+        ensures within { self.old.alone ≡ true → IsOk result × (self.new.room + length self.new.value ≡ self.old.room + length self.old.value) }
+        ensures refused { OnErr result (Stays self.old self.new × (h.new ≡ h.old)) }
+        ensures paid { Pays T.is_counted T.WEIGHT self.old h.old h.new }
+    {
+        if self.count() == 0 {
+            return Ok(None);
+        }
+        storage::prepare(&mut self.cell, self.alloc, 0, h)?;
+        match self.cell.sole(h) {
+            Some(row) => Ok(row.pop()),
+            None => unreachable!(),
+        }
+    }
+
+    /// Elements `i` and `j` in each other's place. One step where the storage is unshared.
+    #[tactic(auto, using(cow_row::proofs::Runs::row_steps))]
+    pub fn swap_at(&mut self, i: usize, j: usize, h: &mut Holder<Q>) -> Result<(), NoMemory>
+        requires first { i < length self.old.value }
+        requires second { j < length self.old.value }
+        requires spare { need (length self.old.value) ≤ h.old.spare }
+        ensures ok { OnOk result (Becomes (swap self.old.value i j) self.new) }
+        ensures within { self.old.alone ≡ true → IsOk result × (self.new.room ≡ self.old.room) }
+        ensures refused { OnErr result (Stays self.old self.new × (h.new ≡ h.old)) }
+        ensures paid { Pays T.is_counted T.WEIGHT self.old h.old h.new }
+    {
+        storage::prepare(&mut self.cell, self.alloc, 0, h)?;
+        match self.cell.sole(h) {
+            Some(row) => row.swap(i, j),
+            None => unreachable!(),
+        }
+        Ok(())
+    }
+
+    /// The elements in the opposite order.
+    #[tactic(auto, using(cow_row::proofs::Runs::row_steps))]
+    pub fn reverse(&mut self, h: &mut Holder<Q>) -> Result<(), NoMemory>
+        requires spare { need (length self.old.value) ≤ h.old.spare }
+        ensures ok { OnOk result (Becomes (reverse self.old.value) self.new) }
+        ensures within { self.old.alone ≡ true → IsOk result × (self.new.room ≡ self.old.room) }
+        ensures refused { OnErr result (Stays self.old self.new × (h.new ≡ h.old)) }
+        ensures paid { Pays T.is_counted T.WEIGHT self.old h.old h.new }
+    {
+        storage::prepare(&mut self.cell, self.alloc, 0, h)?;
+        match self.cell.sole(h) {
+            Some(row) => row.reverse(),
+            None => unreachable!(),
+        }
+        Ok(())
+    }
+
+    /// `items` stand in the place of the elements from `i` up to `j`, which end. What stands behind moves
+    /// once.
+    #[tactic(auto, using(cow_row::proofs::Runs::row_steps))]
+    pub fn replace(
+        &mut self,
+        i: usize,
+        j: usize,
+        items: Vec<T>,
+        h: &mut Holder<Q>,
+    ) -> Result<(), (NoMemory, Vec<T>)>
+        requires order { i ≤ j }
+        requires within { j ≤ length self.old.value }
+        requires growth { length self.old.value + vec_len items < 2 ^ 31 + (j - i) }
+        requires spare { need (length self.old.value + vec_len items) ≤ h.old.spare }
+        ensures ok { OnOk result (Becomes (splice self.old.value i j (map T.plain items.items)) self.new) }
+        ensures within { HasRoom (vec_len items - (j - i)) self.old → IsOk result × (self.new.room + vec_len items ≡ self.old.room + (j - i)) }
+        ensures refused { IfErr result (λ e. Stays self.old self.new × (h.new ≡ h.old) × (e.1.items ≡ items.items)) }
+        ensures paid { Pays T.is_counted T.WEIGHT self.old h.old h.new }
+    {
+        let extra = items.len().saturating_sub(j - i);
+        if let Err(refused) = storage::prepare(&mut self.cell, self.alloc, extra, h) {
+            return Err((refused, items));
+        }
+        match self.cell.sole(h) {
+            Some(row) => row::replace_run(row, i, j - i, items, h),
+            None => unreachable!(),
+        }
+        Ok(())
+    }
+
+    /// Copies of the other's elements stand last. Linear in their number where the storage is unshared.
+    #[tactic(auto, using(cow_row::proofs::Runs::row_steps))]
+    pub fn extend(&mut self, other: &Array<T, Q>, h: &mut Holder<Q>) -> Result<(), NoMemory>
+        requires growth { length self.old.value + length other.now.value < 2 ^ 31 }
+        requires spare { need (length self.old.value + length other.now.value) ≤ h.old.spare }
+        ensures ok { OnOk result (Becomes (self.old.value ++ other.now.value) self.new) }
+        ensures within { HasRoom (length other.now.value) self.old → IsOk result × (self.new.room + length other.now.value ≡ self.old.room) }
+        ensures refused { OnErr result (Stays self.old self.new × (h.new ≡ h.old)) }
+        ensures paid { Moves (count_by T.is_counted (self.old.value ++ other.now.value)) (copies self.old.alone (T.WEIGHT * length self.old.value) + T.WEIGHT * length other.now.value) h.old h.new }
+    {
+        let from = other.cell.get();
+        storage::prepare(&mut self.cell, self.alloc, from.len(), h)?;
+        match self.cell.sole(h) {
+            Some(row) => storage::copy_run(from, 0, from.len(), row, h),
+            None => unreachable!(),
+        }
+        Ok(())
+    }
+
+    /// Room for at least `n` more elements, and for no more than that where the storage grows.
+    pub fn reserve(&mut self, n: usize, h: &mut Holder<Q>) -> Result<(), NoMemory>
+        requires growth { n ≤ 2 ^ 30 }
+        requires spare { need (length self.old.value) ≤ h.old.spare }
+        ensures ok { OnOk result (Becomes self.old.value self.new) }
+        ensures room { OnOk result (n ≤ self.new.room) }
+        ensures most { self.new.room ≤ max n self.old.room }
+        ensures within { HasRoom n self.old → IsOk result × (self.new ≡ self.old) }
+        ensures refused { OnErr result (Stays self.old self.new × (h.new ≡ h.old)) }
+        ensures paid { Pays T.is_counted T.WEIGHT self.old h.old h.new }
+    {
+        let capacity = self.count() + n;
+        storage::reserve(&mut self.cell, self.alloc, capacity, h)
+    }
+
+    /// No elements. An unshared storage ends its items and keeps its room.
+    pub fn clear(&mut self, h: &mut Holder<Q>) -> Result<(), NoMemory>
+        requires spare { need (length self.old.value) ≤ h.old.spare }
+        ensures ok { OnOk result (Becomes [] self.new) }
+        ensures within { self.old.alone ≡ true → IsOk result × (self.new.room ≡ self.old.room + length self.old.value) }
+        ensures refused { OnErr result (Stays self.old self.new × (h.new ≡ h.old)) }
+        ensures paid { Moves (count_by T.is_counted self.old.value) 0 h.old h.new }
+    {
+        storage::clear(&mut self.cell, self.alloc, h)
+    }
+
+    /// The elements from `i` up to `j`, with their indices, in one step: both show their elements, and
+    /// neither is alone.
+    #[tactic(auto, using(cow_row::proofs::Runs::row_steps))]
+    pub fn slice(&mut self, i: usize, j: usize, h: &mut Holder<Q>) -> ArraySlice<T, Q>
+        requires order { i ≤ j }
+        requires within { j ≤ length self.old.value }
+        requires spare { 1 ≤ h.old.spare }
+        ensures same { self.new ≡ settled self.old }
+        ensures items { result.value.items ≡ slice_range self.old.value i j }
+        ensures start { result.value.start ≡ i }
+        ensures units { result.value.units ≡ count_by T.is_counted self.old.value }
+        ensures alone { result.alone ≡ false }
+        ensures spent { h.new ≡ less 1 h.old }
+    {
+        ArraySlice {
+            cell: self.cell.share(h),
+            from: i,
+            count: j - i,
+            start: i,
+            alloc: self.alloc,
+        }
+    }
+}
+
+impl<T: Key<Q>, Q: Stock> Array<T, Q> {
+    /// Whether the two have the same elements in the same order.
+    pub fn equals(&self, other: &Array<T, Q>) -> bool
+        ensures { IsTrue result ↔ (self.now.value ≡ other.now.value) }
+    {
+        let left = self.cell.get();
+        let right = other.cell.get();
+        if left.len() != right.len() {
+            return false;
+        }
+        for i in 0..left.len() {
+            if !left.get(i).same(right.get(i)) {
+                return false;
+            }
+        }
+        true
+    }
+}

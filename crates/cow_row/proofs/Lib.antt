@@ -1,0 +1,4 @@
+pub mod Gaps
+pub mod Packed
+pub mod Runs
+pub mod Splices

@@ -1,0 +1,20 @@
+//! A row of items in a buffer, and what every flat collection does with a counted one.
+//!
+//! - `Row<T>`: items side by side in a `Buf`, with empty places before and behind them. Contracts see
+//!   the items, the number of empty places before them, and the capacity from the first item's place on.
+//!   Its invariant: these are the buffer's filled places, and there are no others.
+//! - `storage`: the bodies that changes share, each on a `Counted<Row<T>>`. `prepare` makes a handle
+//!   alone with room: it asks `sole`, grows an unshared row in place by moving its items, and else goes by
+//!   `renew`, which takes all memory of the new storage first, copies the items, which can't be refused,
+//!   and ends the old handle last. After an `Ok` of `prepare` the handle is known to be alone, so the
+//!   collection's `sole` answers the row to write to.
+//!
+//! The layer above names no buffer and no place: it changes a row by list calls, each of which is one
+//! step or one move of memory, but for `reverse` and for `replace_run`, which takes one move and a step
+//! for each item that comes or goes.
+#![tactic(auto)]
+
+pub mod row;
+pub mod storage;
+
+pub use row::Row;

@@ -1,0 +1,295 @@
+ghost use Rattle.std.specs.Prelude.{◌≡◌, ◌+◌, ◌-◌, ◌<◌, ◌≤◌, ◌^◌, [], ◌∷◌, ◌++◌, length, map, count_by, All, IsPermutation, slice_get, slice_set, take, drop, insert, remove, swap, reverse, IfOk, IfNone, IfSome, OnOk, OnErr, IsOk, Some, None, max};
+ghost use Rattle.std.specs.List.{splice};
+ghost use Rattle.cow_buf.specs.Places.{IsRun, IsClear, blanked};
+ghost use Rattle.cow_model.specs.Purse.{more};
+ghost use Rattle.cow_row.specs.Places.{somes};
+
+use cow_buf::Buf;
+use cow_cell::{Holder, Stock};
+use cow_item::Item;
+use cow_model::NoMemory;
+use std::alloc::Global;
+use std::marker::Model;
+
+/// Items side by side in a buffer, with empty places before and behind them.
+#[derive(Drop)]
+pub struct Row<T> {
+    buf: Buf<T>,
+    /// How many places before the first item are empty.
+    front: usize,
+    len: usize,
+}
+
+impl<T> Model for Row<T> {
+    ghost use Rattle.std.specs.Prelude.{◌-◌, length};
+    ghost use Rattle.cow_row.specs.RowView.{RowView};
+    ghost use Rattle.cow_row.specs.Places.{somes, IsPacked};
+
+    ghost Value = { RowView T };
+
+    ghost view = { λ r. record { items = somes r.buf; front = r.front; capacity = length r.buf - r.front } };
+
+    ghost invariant = { λ r. IsPacked r.buf r.front r.len };
+}
+
+impl<T: Drop> Row<T> {
+    /// An empty row with room for `n` items. Takes memory for them, and no more.
+    pub fn with_capacity(alloc: Global, n: usize) -> Result<Row<T>, NoMemory>
+        requires { n ≤ 2 ^ 32 }
+        ensures { IfOk result (λ r. r ≡ record { items = []; front = 0; capacity = n }) }
+    {
+        let buf = Buf::with_capacity(alloc, n)?;
+        Ok(Row {
+            buf,
+            front: 0,
+            len: 0,
+        })
+    }
+
+    /// How many items there are.
+    pub fn len(&self) -> usize
+        ensures value { result ≡ length self.now.items }
+        ensures fits { length self.now.items ≤ self.now.capacity }
+    {
+        self.len
+    }
+
+    /// How many items fit from the first one's place on.
+    pub fn capacity(&self) -> usize
+        ensures value { result ≡ self.now.capacity }
+        ensures bound { result ≤ 2 ^ 32 }
+    {
+        self.buf.capacity() - self.front
+    }
+
+    /// Item `i`.
+    pub fn get(&self, i: usize) -> &T
+        requires { i < length self.now.items }
+        ensures { slice_get self.now.items i ≡ Some result.now }
+    {
+        self.buf.at(self.front + i)
+    }
+
+    /// `x` stands last. One step.
+    pub fn push(&mut self, x: T)
+        requires { length self.old.items < self.old.capacity }
+        ensures { self.new ≡ record self.old { items = self.old.items ++ x ∷ [] } }
+    {
+        self.buf.put(self.front + self.len, x);
+        self.len += 1;
+    }
+
+    /// `x` stands in the place of item `i`, which is handed out. One step.
+    pub fn replace(&mut self, i: usize, x: T) -> T
+        requires { i < length self.old.items }
+        ensures value { slice_get self.old.items i ≡ Some result }
+        ensures row { self.new ≡ record self.old { items = slice_set self.old.items i x } }
+    {
+        let place = self.front + i;
+        let old = self.buf.take(place);
+        self.buf.put(place, x);
+        old
+    }
+
+    /// The last item, taken out. One step.
+    pub fn pop(&mut self) -> Option<T>
+        ensures empty { IfNone result (self.old.items ≡ []) }
+        ensures kept { IfNone result (self.new ≡ self.old) }
+        ensures value { IfSome result (λ x. self.old.items ≡ self.new.items ++ x ∷ []) }
+        ensures front { self.new.front ≡ self.old.front }
+        ensures capacity { self.new.capacity ≡ self.old.capacity }
+    {
+        if self.len == 0 {
+            return None;
+        }
+        self.len -= 1;
+        Some(self.buf.take(self.front + self.len))
+    }
+
+    /// The first item, taken out. One step: its place is empty from then on.
+    pub fn pop_front(&mut self) -> Option<T>
+        ensures empty { IfNone result (self.old.items ≡ []) }
+        ensures kept { IfNone result (self.new ≡ self.old) }
+        ensures value { IfSome result (λ x. self.old.items ≡ x ∷ self.new.items) }
+        ensures front { IfSome result (λ _. self.new.front ≡ self.old.front + 1) }
+        ensures capacity { IfSome result (λ _. self.new.capacity + 1 ≡ self.old.capacity) }
+    {
+        if self.len == 0 {
+            return None;
+        }
+        let first = self.buf.take(self.front);
+        self.front += 1;
+        self.len -= 1;
+        Some(first)
+    }
+
+    /// Item `i`, taken out; the first item stands in its place. One step, where `remove` moves all
+    /// that follow.
+    pub fn swap_remove_front(&mut self, i: usize) -> T
+        requires { i < length self.old.items }
+        ensures value { slice_get self.old.items i ≡ Some result }
+        ensures rest { drop i self.new.items ≡ drop (i + 1) self.old.items }
+        ensures others { IsPermutation self.old.items (result ∷ self.new.items) }
+        ensures front { self.new.front ≡ self.old.front + 1 }
+        ensures capacity { self.new.capacity + 1 ≡ self.old.capacity }
+    {
+        let first = match self.pop_front() {
+            None => unreachable!(),
+            Some(first) => first,
+        };
+        if i == 0 {
+            return first;
+        }
+        self.replace(i - 1, first)
+    }
+
+    /// Items `i` and `j` in each other's place. A fixed number of steps.
+    pub fn swap(&mut self, i: usize, j: usize)
+        requires first { i < length self.old.items }
+        requires second { j < length self.old.items }
+        ensures { self.new ≡ record self.old { items = swap self.old.items i j } }
+    {
+        if i == j {
+            return;
+        }
+        let x = self.buf.take(self.front + i);
+        let y = self.buf.take(self.front + j);
+        self.buf.put(self.front + i, y);
+        self.buf.put(self.front + j, x);
+    }
+
+    /// The items in the opposite order.
+    pub fn reverse(&mut self)
+        ensures { self.new ≡ record self.old { items = reverse self.old.items } }
+    {
+        let len = self.len();
+        for i in 0..len / 2 {
+            self.swap(i, len - 1 - i);
+        }
+    }
+
+    /// Room for `n` items in all. Moves the items and copies none; where it takes memory, it takes it
+    /// for `n` items.
+    pub fn reserve(&mut self, alloc: Global, n: usize) -> Result<(), NoMemory>
+        requires { n ≤ 2 ^ 32 }
+        ensures items { self.new.items ≡ self.old.items }
+        ensures ok { OnOk result (n ≤ self.new.capacity) }
+        ensures most { self.new.capacity ≤ max n (self.old.front + self.old.capacity) }
+        ensures front { self.new.front ≤ self.old.front }
+        ensures within { n ≤ self.old.capacity → (IsOk result × (self.new ≡ self.old)) }
+        ensures refused { OnErr result (self.new ≡ self.old) }
+    {
+        if n <= self.capacity() {
+            return Ok(());
+        }
+        if n <= self.buf.capacity() {
+            self.to_front();
+            return Ok(());
+        }
+        let mut wider = Buf::with_capacity(alloc, n)?;
+        self.to_front();
+        self.buf.drain_into(&mut wider);
+        self.buf = wider;
+        Ok(())
+    }
+
+    /// The items stand from the first place on. One move of memory where they don't.
+    pub fn to_front(&mut self)
+        ensures { self.new ≡ record { items = self.old.items; front = 0; capacity = self.old.front + self.old.capacity } }
+    {
+        self.buf.shift(self.front, 0, self.len);
+        self.front = 0;
+    }
+
+    /// `x` stands at place `i`; what stood there and behind moves up, by one move of memory.
+    pub fn insert(&mut self, i: usize, x: T)
+        requires room { length self.old.items < self.old.capacity }
+        requires place { i ≤ length self.old.items }
+        ensures { self.new ≡ record self.old { items = insert self.old.items i x } }
+    {
+        let place = self.front + i;
+        self.buf.shift(place, place + 1, self.len - i);
+        self.buf.put(place, x);
+        self.len += 1;
+    }
+
+    /// Item `i`, taken out; what stood behind moves down, by one move of memory.
+    pub fn remove(&mut self, i: usize) -> T
+        requires { i < length self.old.items }
+        ensures value { slice_get self.old.items i ≡ Some result }
+        ensures row { self.new ≡ record self.old { items = remove self.old.items i } }
+    {
+        let place = self.front + i;
+        let item = self.buf.take(place);
+        self.buf.shift(place + 1, place, self.len - i - 1);
+        self.len -= 1;
+        item
+    }
+}
+
+/// The items of `items`, settled, stand in the place of the `count` items from `start` on, which end.
+/// What stands behind moves once, by one move of memory. Takes no memory.
+pub fn replace_run<T: Item<Q>, Q: Stock>(
+    row: &mut Row<T>,
+    start: usize,
+    count: usize,
+    items: Vec<T>,
+    h: &mut Holder<Q>,
+)
+    requires within { start + count ≤ length row.old.items }
+    requires room { length row.old.items + length items.items ≤ row.old.capacity + count }
+    requires settled { All T.IsSettled row.old.items }
+    ensures same { map T.plain row.new.items ≡ splice (map T.plain row.old.items) start (start + count) (map T.plain items.items) }
+    ensures count { length row.new.items + count ≡ length row.old.items + length items.items }
+    ensures settled { All T.IsSettled row.new.items }
+    ensures capacity { row.new.capacity ≡ row.old.capacity }
+    ensures front { row.new.front ≡ row.old.front }
+    ensures paid { h.new ≡ more (count_by T.is_counted (map T.plain (take count (drop start row.old.items)))) h.old }
+{
+    let mut items = items;
+    settle_all(&mut items);
+    let added = items.len();
+    let place = row.front + start;
+    end_places(&mut row.buf, place, count, h);
+    row.buf
+        .shift(place + count, place + added, row.len - start - count);
+    fill(&mut row.buf, place, items);
+    row.len = row.len - count + added;
+}
+
+/// Settles each item. Nothing at run time.
+fn settle_all<T: Item<Q>, Q: Stock>(items: &mut Vec<T>)
+    ensures same { map T.plain items.new.items ≡ map T.plain items.old.items }
+    ensures count { length items.new.items ≡ length items.old.items }
+    ensures settled { All T.IsSettled items.new.items }
+{
+    for i in 0..items.len() {
+        items[i].settle();
+    }
+}
+
+/// Ends what the `count` places from `from` on hold, which are empty then.
+fn end_places<T: Item<Q>, Q: Stock>(buf: &mut Buf<T>, from: usize, count: usize, h: &mut Holder<Q>)
+    requires filled { IsRun buf.old from count }
+    requires small { from + count ≤ 2 ^ 32 }
+    ensures places { buf.new ≡ blanked None from count buf.old }
+    ensures paid { h.new ≡ more (count_by T.is_counted (map T.plain (somes (take count (drop from buf.old))))) h.old }
+{
+    for i in 0..count {
+        buf.take(from + i).end(h);
+    }
+}
+
+/// Puts the items into the empty places from `from` on.
+fn fill<T: Drop>(buf: &mut Buf<T>, from: usize, items: Vec<T>)
+    requires within { from + length items.items ≤ length buf.old }
+    requires empty { IsClear buf.old from (from + length items.items) }
+    requires small { from + length items.items ≤ 2 ^ 32 }
+    ensures { buf.new ≡ splice buf.old from (from + length items.items) (map Some items.items) }
+{
+    let mut at = from;
+    for x in items {
+        buf.put(at, x);
+        at += 1;
+    }
+}
