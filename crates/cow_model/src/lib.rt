@@ -15,9 +15,11 @@ mod name;
 mod plain;
 mod refusal;
 mod statement;
+mod value;
 
 pub use memory::NoMemory;
 pub use name::Name;
 pub use plain::{Bytes, Literal};
 pub use refusal::Refusal;
-pub use statement::Statement;
+pub use statement::{Capture, Kind, Side, Statement, TaskBlock, Verb};
+pub use value::{Pair, Plain};
