@@ -14,6 +14,7 @@ mod memory;
 mod name;
 mod plain;
 mod refusal;
+mod shape;
 mod statement;
 mod value;
 
@@ -21,5 +22,6 @@ pub use memory::NoMemory;
 pub use name::Name;
 pub use plain::{Bytes, Literal};
 pub use refusal::Refusal;
+pub use shape::Shape;
 pub use statement::{Capture, Kind, Side, Statement, TaskBlock, Verb};
 pub use value::{Pair, Plain};

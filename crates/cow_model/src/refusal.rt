@@ -5,9 +5,15 @@ ghost use Rattle.std.specs.Prelude.{◌≡◌};
 pub enum Refusal {
     /// A name that is read isn't there.
     NoName,
-    /// The value would have more than 65,536 elements, or the name would be the 65th.
+    /// The value of a name is of a kind that the statement has nothing for.
+    WrongKind,
+    /// No rule has the number of a lazy statement.
+    NoRule,
+    /// A position, or a number of elements, is none of the value's.
+    OutOfRange,
+    /// The value would have more than 65,536 elements or pairs, or the name would be the 65th.
     Full,
-    /// The line of `show` is longer than what is left of its block's 4,194,304 bytes.
+    /// The line of `show` or `lazy show` is longer than what is left of its block's 4,194,304 bytes.
     TextFull,
 }
 
@@ -20,6 +26,9 @@ impl Refusal {
     {
         match self {
             Refusal::NoName => b"! no name\n",
+            Refusal::WrongKind => b"! wrong kind\n",
+            Refusal::NoRule => b"! no rule\n",
+            Refusal::OutOfRange => b"! out of range\n",
             Refusal::Full => b"! full\n",
             Refusal::TextFull => b"! text full\n",
         }
