@@ -4,18 +4,8 @@ use Rattle.std.specs.List.{remove}
 use Rattle.std.specs.Str.{bytes_eq}
 use Rattle.cow_model.specs.Lexis.{Text}
 use Rattle.cow_model.specs.declared.value.Plain.{Plain}
-
--- a name, its value, and whether the sharing rule takes that to be alone in its storage
-pub record Entry : Type 0 where
-  pub name : Text
-  pub value : Plain
-  pub alone : Bool
-
--- the names, how many bytes `show` may still print, and how many copies the sharing rule has allowed
-pub record Env : Type 0 where
-  pub names : List Entry
-  pub room : ℕ
-  pub allowed : ℕ
+use Rattle.cow_model.specs.declared.outcome.Entry.{Entry}
+use Rattle.cow_model.specs.declared.outcome.Environment.{Environment}
 
 -- the most names of an environment
 abbrev pub max_names : ℕ
@@ -26,11 +16,11 @@ abbrev pub max_shown : ℕ
 max_shown = 4194304
 
 -- the environment at the start of a block, with these names
-abbrev pub start_with : List Entry → Env
+abbrev pub start_with : List Entry → Environment
 start_with names = record { names = names; room = max_shown; allowed = 0 }
 
 -- the environment at the start of a script
-abbrev pub start : Env
+abbrev pub start : Environment
 start = start_with []
 
 -- where a name stands
@@ -82,9 +72,9 @@ abbrev pub settled : Text → List Entry → List Entry
 settled name names = settled_at (place_of name names) (entry_of name names) names
 
 -- the environment with other names
-abbrev pub renamed : List Entry → Env → Env
+abbrev pub renamed : List Entry → Environment → Environment
 renamed names env = record env { names = names }
 
 -- the environment once so many more copies are allowed
-abbrev pub allow : ℕ → Env → Env
+abbrev pub allow : ℕ → Environment → Environment
 allow n env = record env { allowed = env.allowed + n }

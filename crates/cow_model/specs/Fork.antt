@@ -2,14 +2,17 @@
 use Rattle.std.specs.Prelude.{ℕ, ◌+◌, Bool, true, false, List, [], ◌∷◌, ◌++◌, Option, Some, None, if◌then◌else◌}
 use Rattle.cow_model.specs.Lexis.{Text}
 use Rattle.cow_model.specs.Printed.{refusal}
-use Rattle.cow_model.specs.Env.{Entry, Env, start_with, entry_of, has_place, given, without, settled, shared, renamed, allow}
-use Rattle.cow_model.specs.Step.{Outcome, quiet, refused, step}
+use Rattle.cow_model.specs.Env.{start_with, entry_of, has_place, given, without, settled, shared, renamed, allow}
+use Rattle.cow_model.specs.Step.{quiet, refused, step}
 use Rattle.cow_model.specs.declared.shape.Shape.{Shape}
 use Rattle.cow_model.specs.declared.statement.Capture.{Capture}
 use Rattle.cow_model.specs.declared.statement.Statement.{Statement, out-Statement}
 use Rattle.cow_model.specs.declared.statement.Statement.TheOpen.{Statement-F, TaskBlock-F}
 use Rattle.cow_model.specs.declared.statement.TaskBlock.{TaskBlock, out-TaskBlock}
 use Rattle.cow_model.specs.declared.refusal.Refusal.TheVariants.{NoName, Full}
+use Rattle.cow_model.specs.declared.outcome.Entry.{Entry}
+use Rattle.cow_model.specs.declared.outcome.Environment.{Environment}
+use Rattle.cow_model.specs.declared.outcome.Outcome.{Outcome}
 
 -- the names of a parent and of its task after captures, and the lines of those that were refused
 pub record Captured : Type 0 where
@@ -31,7 +34,7 @@ captured_all c (capture ∷ captures) = captured_all (captured c capture (entry_
 
 -- a task in the middle of its run: its environment, its text, and the entries that it has given
 pub record Task : Type 0 where
-  pub env : Env
+  pub env : Environment
   pub text : Text
   pub gives : List Entry
 
@@ -109,9 +112,9 @@ abbrev pub ended : Outcome → List Task → Outcome
 ended out tasks = assigned_all (joined_all out tasks) (given_by tasks)
 
 -- a fork whose captures are made
-abbrev pub run_forked : Env → List Shape → Forked → Outcome
+abbrev pub run_forked : Environment → List Shape → Forked → Outcome
 run_forked env shapes f = ended (record { env = renamed f.parent env; text = f.text }) (tasks_run shapes f.tasks)
 
 -- `fork`, its tasks and its `end`
-abbrev pub fork_in : Env → List Shape → List TaskBlock → Outcome
+abbrev pub fork_in : Environment → List Shape → List TaskBlock → Outcome
 fork_in env shapes tasks = run_forked env shapes (forked (record { parent = env.names; text = []; tasks = [] }) tasks)

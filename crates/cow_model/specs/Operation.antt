@@ -17,13 +17,9 @@ use Rattle.cow_model.specs.declared.statement.Kind.{Kind}
 use Rattle.cow_model.specs.declared.statement.Kind.TheVariants as kind
 use Rattle.cow_model.specs.declared.statement.Side.{Side}
 use Rattle.cow_model.specs.declared.statement.Side.TheVariants as side
+use Rattle.cow_model.specs.declared.outcome.Done.{Done}
 use Rattle.cow_model.specs.declared.refusal.Refusal.{Refusal}
 use Rattle.cow_model.specs.declared.refusal.Refusal.TheVariants.{WrongKind, OutOfRange, Full}
-
--- the value after a statement, and what the statement prints: a line or nothing
-pub record Done : Type 0 where
-  pub value : Plain
-  pub reply : Text
 
 -- what becomes of a statement
 abbrev pub Answer : Type 0

@@ -2,7 +2,6 @@
 use Rattle.std.specs.Prelude.{ℕ, ◌+◌, ◌*◌, min, ◌==◌, Bool, true, false, not, ◌||◌, List, [], ◌∷◌, length, count_by, if◌then◌else◌}
 use Rattle.cow_model.specs.Hash.{literal_hash}
 use Rattle.cow_model.specs.Plain.{size, is_tree, same_plain}
-use Rattle.cow_model.specs.Env.{Entry}
 use Rattle.cow_model.specs.declared.plain.Literal.{Literal}
 use Rattle.cow_model.specs.declared.value.Pair.{Pair}
 use Rattle.cow_model.specs.declared.value.Plain.{Plain}
@@ -12,6 +11,7 @@ use Rattle.cow_model.specs.declared.statement.Side.TheVariants.{First, Last, Min
 use Rattle.cow_model.specs.declared.statement.Statement.{Statement}
 use Rattle.cow_model.specs.declared.statement.TaskBlock.{TaskBlock}
 use Rattle.cow_model.specs.declared.statement.Statement.TheOpen.{Statement-F}
+use Rattle.cow_model.specs.declared.outcome.Entry.{Entry}
 
 -- one level of a statement, as `out-Statement` opens it
 abbrev pub Layer : Type 0

@@ -9,7 +9,7 @@ use Rattle.cow_model.specs.Operation as operation
 use Rattle.cow_model.specs.Operation.{Answer, fitting, index}
 use Rattle.cow_model.specs.Reading as reading
 use Rattle.cow_model.specs.Reading.{Told}
-use Rattle.cow_model.specs.Env.{Entry, Env, entry_of, has_place, given, without, settled, shared, renamed, allow}
+use Rattle.cow_model.specs.Env.{entry_of, has_place, given, without, settled, shared, renamed, allow}
 use Rattle.cow_model.specs.Sharing.{Layer, literals, own_cost, key_cost, pop_cost, both_cost, alone_after, alone_after_pop}
 use Rattle.cow_model.specs.Lazy.{view}
 use Rattle.cow_model.specs.declared.plain.Literal.{Literal}
@@ -22,104 +22,102 @@ use Rattle.cow_model.specs.declared.statement.Verb.TheVariants as verb
 use Rattle.cow_model.specs.declared.statement.Statement.TheOpen.{Statement-F}
 use Rattle.cow_model.specs.declared.refusal.Refusal.{Refusal}
 use Rattle.cow_model.specs.declared.refusal.Refusal.TheVariants.{NoName, WrongKind, NoRule, Full, TextFull}
-
--- the environment after a statement, and what the statement prints
-pub record Outcome : Type 0 where
-  pub env : Env
-  pub text : Text
+use Rattle.cow_model.specs.declared.outcome.Entry.{Entry}
+use Rattle.cow_model.specs.declared.outcome.Environment.{Environment}
+use Rattle.cow_model.specs.declared.outcome.Outcome.{Outcome}
 
 -- a statement that is refused changes nothing
-abbrev pub refused : Env → Refusal → Outcome
+abbrev pub refused : Environment → Refusal → Outcome
 refused env why = record { env = env; text = refusal why }
 
 -- the names change, and nothing is printed
-abbrev pub quiet : Env → Outcome
+abbrev pub quiet : Environment → Outcome
 quiet env = record { env = env; text = [] }
 
 -- what a statement does with the entry of a name, which has to be there
-abbrev pub with_found : Env → Option Entry → (Entry → Outcome) → Outcome
+abbrev pub with_found : Environment → Option Entry → (Entry → Outcome) → Outcome
 with_found env None run = refused env NoName
 with_found env (Some e) run = run e
 
-abbrev pub with_entry : Env → Text → (Entry → Outcome) → Outcome
+abbrev pub with_entry : Environment → Text → (Entry → Outcome) → Outcome
 with_entry env name run = with_found env (entry_of name env.names) run
 
 -- a name stands for a value
-abbrev pub gives : Text → Plain → Bool → Env → Env
+abbrev pub gives : Text → Plain → Bool → Environment → Environment
 gives name value alone env = renamed (given (record { name = name; value = value; alone = alone }) env.names) env
 
 -- a name's value isn't alone any longer
-abbrev pub settles : Text → Env → Env
+abbrev pub settles : Text → Environment → Environment
 settles name env = renamed (settled name env.names) env
 
 -- `let N = KIND A*`
-abbrev pub let_in : Env → Text → Plain → Outcome
+abbrev pub let_in : Environment → Text → Plain → Outcome
 let_in env name value = if has_place name env.names then quiet (gives name value true env) else refused env Full
 
 -- a second value made of M's: neither is alone
-abbrev pub second_in : Env → Text → Text → Plain → Outcome
+abbrev pub second_in : Environment → Text → Text → Plain → Outcome
 second_in env name other value = if has_place name env.names then quiet (gives name value false (settles other env)) else refused env Full
 
 -- `let N = M`
-abbrev pub assign_in : Env → Text → Text → Outcome
+abbrev pub assign_in : Environment → Text → Text → Outcome
 assign_in env name other = with_entry env other (λ e. second_in env name other e.value)
 
 -- a slice, where it isn't refused
-abbrev pub sliced : Env → Text → Text → Answer → Outcome
+abbrev pub sliced : Environment → Text → Text → Answer → Outcome
 sliced env name other (Err why) = refused env why
 sliced env name other (Ok done) = second_in env name other done.value
 
 -- `let N = slice M I J`
-abbrev pub slice_in : Env → Text → Text → ℤ → ℤ → Outcome
+abbrev pub slice_in : Environment → Text → Text → ℤ → ℤ → Outcome
 slice_in env name other i j = with_entry env other (λ e. sliced env name other (operation.slice i j e.value))
 
 -- `drop N`
-abbrev pub discard_in : Env → Text → Outcome
+abbrev pub discard_in : Environment → Text → Outcome
 discard_in env name = with_entry env name (λ e. quiet (renamed (without name env.names) env))
 
 -- a line that uses room
-abbrev pub print_in : Env → Text → Outcome
+abbrev pub print_in : Environment → Text → Outcome
 print_in env text =
     if nat_lt env.room (length text) then refused env TextFull
     else record { env = record env { room = env.room - length text }; text = text }
 
 -- `show N`
-abbrev pub show_in : Env → Text → Outcome
+abbrev pub show_in : Environment → Text → Outcome
 show_in env name = with_entry env name (λ e. print_in env (line (plain_text e.value)))
 
 -- a line that was told, or the refusal
-abbrev pub told : Env → Told → Outcome
+abbrev pub told : Environment → Told → Outcome
 told env (Err why) = refused env why
 told env (Ok text) = record { env = env; text = line text }
 
 -- a statement that reads one value
-abbrev pub ask : Env → Text → (Plain → Told) → Outcome
+abbrev pub ask : Environment → Text → (Plain → Told) → Outcome
 ask env name tell = with_entry env name (λ e. told env (tell e.value))
 
 -- what two values told: one name for both isn't alone afterwards
-abbrev pub told_both : Env → Text → Text → Told → Outcome
+abbrev pub told_both : Environment → Text → Text → Told → Outcome
 told_both env name other (Err why) = refused env why
 told_both env name other (Ok text) = record { env = if bytes_eq name other then settles name env else env; text = line text }
 
 -- a statement that reads two values
-abbrev pub ask_both : Env → Text → Text → (Plain → Plain → Told) → Outcome
+abbrev pub ask_both : Environment → Text → Text → (Plain → Plain → Told) → Outcome
 ask_both env name other tell = with_entry env name (λ e. with_entry env other (λ f. told_both env name other (tell e.value f.value)))
 
 -- a name's value becomes another, so many copies are allowed, and `alone` tells its flag
-abbrev pub becomes : Env → Text → ℕ → (Plain → Bool) → Answer → Outcome
+abbrev pub becomes : Environment → Text → ℕ → (Plain → Bool) → Answer → Outcome
 becomes env name n alone (Err why) = refused env why
 becomes env name n alone (Ok done) = record { env = allow n (gives name done.value (alone done.value) env); text = done.reply }
 
 -- a statement that changes one value
-abbrev pub change : Env → Text → (Plain → Answer) → Outcome
+abbrev pub change : Environment → Text → (Plain → Answer) → Outcome
 change env name run = with_entry env name (λ e. becomes env name (own_cost e) (alone_after e) (fitting (run e.value)))
 
 -- a statement that changes one key
-abbrev pub change_key : Env → Text → Literal → (Plain → Answer) → Outcome
+abbrev pub change_key : Environment → Text → Literal → (Plain → Answer) → Outcome
 change_key env name key run = with_entry env name (λ e. becomes env name (key_cost key e) (alone_after e) (fitting (run e.value)))
 
 -- `pop N END`
-abbrev pub pop_in : Env → Text → Side → Outcome
+abbrev pub pop_in : Environment → Text → Side → Outcome
 pop_in env name side = with_entry env name (λ e. becomes env name (pop_cost side e) (alone_after_pop side e) (operation.pop side e.value))
 
 -- N as a change by M takes it: not alone where it is M itself
@@ -127,7 +125,7 @@ abbrev pub as_changed : Text → Text → Entry → Entry
 as_changed name other e = if bytes_eq name other then shared e else e
 
 -- a statement that changes N's value by M's, of which elements are added where `adds` is true
-abbrev pub change_by : Env → Text → Text → Bool → (Plain → Plain → Answer) → Outcome
+abbrev pub change_by : Environment → Text → Text → Bool → (Plain → Plain → Answer) → Outcome
 change_by env name other adds run =
     with_entry env name (λ e. with_entry env other (λ f.
     becomes env name (both_cost (as_changed name other e) + (if adds then size f.value else 0))
@@ -135,11 +133,11 @@ change_by env name other adds run =
     (fitting (run e.value f.value))))
 
 -- a lazy statement leaves its array not alone, and allows so many copies
-abbrev pub looked : Env → Text → ℕ → Env
+abbrev pub looked : Environment → Text → ℕ → Environment
 looked env name n = allow n (settles name env)
 
 -- `lazy N I first`, `show` or `count`, of these atoms
-abbrev pub view_in : Env → Text → List Literal → List Literal → Verb → Outcome
+abbrev pub view_in : Environment → Text → List Literal → List Literal → Verb → Outcome
 view_in env name items seen verb.First = record { env = looked env name 1; text = line (nil_or atom_text (slice_get seen 0)) }
 view_in env name items seen verb.Show = print_in (looked env name (length items)) (line (list_text seen))
 view_in env name items seen verb.Count = record { env = looked env name 0; text = line (decimal (length seen)) }
@@ -150,21 +148,21 @@ shape_of shapes None = None
 shape_of shapes (Some i) = slice_get shapes i
 
 -- a lazy statement through a rule, which has to be there
-abbrev pub through : Env → Text → Verb → List Literal → Option Shape → Outcome
+abbrev pub through : Environment → Text → Verb → List Literal → Option Shape → Outcome
 through env name verb items None = refused env NoRule
 through env name verb items (Some shape) = view_in env name items (view shape items) verb
 
 -- a lazy statement on an array
-abbrev pub lazy_at : Env → List Shape → Text → ℤ → Verb → Plain → Outcome
+abbrev pub lazy_at : Environment → List Shape → Text → ℤ → Verb → Plain → Outcome
 lazy_at env shapes name i verb (Array items) = through env name verb items (shape_of shapes (index 0 (length shapes) i))
 lazy_at env shapes name i verb value = refused env WrongKind
 
 -- `lazy N I VERB`
-abbrev pub lazy_in : Env → List Shape → Text → ℤ → Verb → Outcome
+abbrev pub lazy_in : Environment → List Shape → Text → ℤ → Verb → Outcome
 lazy_in env shapes name i verb = with_entry env name (λ e. lazy_at env shapes name i verb e.value)
 
 -- what a statement does once its literals are allowed
-abbrev pub act : Env → List Shape → Layer → Outcome
+abbrev pub act : Environment → List Shape → Layer → Outcome
 act env shapes (Statement-F.Let l n kind atoms) = let_in env n (operation.made kind atoms)
 act env shapes (Statement-F.Assign l n m) = assign_in env n m
 act env shapes (Statement-F.Slice l n m i j) = slice_in env n m i j
@@ -209,5 +207,5 @@ act env shapes (Statement-F.Fork l tasks) = quiet env
 act env shapes (Statement-F.Give l y z) = quiet env
 
 -- a statement that is no fork and no give
-abbrev pub step : Env → List Shape → Layer → Outcome
+abbrev pub step : Environment → List Shape → Layer → Outcome
 step env shapes s = act (allow (literals s) env) shapes s

@@ -12,6 +12,7 @@
 
 mod memory;
 mod name;
+mod outcome;
 mod plain;
 mod refusal;
 mod shape;
@@ -20,6 +21,7 @@ mod value;
 
 pub use memory::NoMemory;
 pub use name::Name;
+pub use outcome::{Done, Entry, Environment, Outcome};
 pub use plain::{Bytes, Literal};
 pub use refusal::Refusal;
 pub use shape::Shape;
