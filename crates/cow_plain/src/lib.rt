@@ -1,0 +1,12 @@
+//! The definitions of the script language, run plainly: whole copies, one thread, lists for everything.
+//!
+//! Every function here answers exactly what the definition of its name in `cow_model` says, so that the
+//! tests of other crates have something to compare with. It is slow on purpose and no part of the
+//! program. Want of memory is its one answer beside the definition's.
+#![tactic(auto)]
+
+mod copies;
+mod lists;
+mod members;
+
+pub use copies::Whole;
