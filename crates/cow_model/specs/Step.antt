@@ -7,8 +7,8 @@ use Rattle.cow_model.specs.Printed.{line, atom_text, list_text, plain_text, nil_
 use Rattle.cow_model.specs.Plain.{size}
 use Rattle.cow_model.specs.Operation as operation
 use Rattle.cow_model.specs.Operation.{Answer, fitting, index}
-use Rattle.cow_model.specs.Reading as reading
-use Rattle.cow_model.specs.Reading.{Told}
+use Rattle.cow_model.specs.Query as query
+use Rattle.cow_model.specs.Query.{Told}
 use Rattle.cow_model.specs.Env.{entry_of, has_place, given, without, settled, shared, renamed, allow}
 use Rattle.cow_model.specs.Sharing.{Layer, literals, own_cost, key_cost, pop_cost, both_cost, alone_after, alone_after_pop}
 use Rattle.cow_model.specs.Lazy.{view}
@@ -168,7 +168,7 @@ act env shapes (Statement-F.Assign l n m) = assign_in env n m
 act env shapes (Statement-F.Slice l n m i j) = slice_in env n m i j
 act env shapes (Statement-F.Discard l n) = discard_in env n
 act env shapes (Statement-F.Show l n) = show_in env n
-act env shapes (Statement-F.Count l n) = ask env n reading.count_of
+act env shapes (Statement-F.Count l n) = ask env n query.count_of
 act env shapes (Statement-F.Append l n a) = change env n (operation.append a)
 act env shapes (Statement-F.Prepend l n a) = change env n (operation.prepend a)
 act env shapes (Statement-F.Insert l n a) = change_key env n a (operation.insert a)
@@ -177,12 +177,12 @@ act env shapes (Statement-F.Update l n a) = change_key env n a (operation.update
 act env shapes (Statement-F.Remove l n x) = change_key env n x (operation.remove x)
 act env shapes (Statement-F.RemoveAt l n i) = change env n (operation.remove_at i)
 act env shapes (Statement-F.Set l n i a) = change env n (operation.set i a)
-act env shapes (Statement-F.Get l n x) = ask env n (reading.get x)
-act env shapes (Statement-F.At l n i) = ask env n (reading.at i)
-act env shapes (Statement-F.Has l n a) = ask env n (reading.has a)
-act env shapes (Statement-F.Place l n a) = ask env n (reading.place a)
+act env shapes (Statement-F.Get l n x) = ask env n (query.get x)
+act env shapes (Statement-F.At l n i) = ask env n (query.at i)
+act env shapes (Statement-F.Has l n a) = ask env n (query.has a)
+act env shapes (Statement-F.Place l n a) = ask env n (query.place a)
 act env shapes (Statement-F.Pop l n side) = pop_in env n side
-act env shapes (Statement-F.Peek l n side) = ask env n (reading.peek side)
+act env shapes (Statement-F.Peek l n side) = ask env n (query.peek side)
 act env shapes (Statement-F.Replace l n side a) = change env n (operation.replace side a)
 act env shapes (Statement-F.Swap l n i j) = change env n (operation.swap i j)
 act env shapes (Statement-F.Reverse l n) = change env n operation.reversed
@@ -196,9 +196,9 @@ act env shapes (Statement-F.Union l n m) = change_by env n m true operation.unio
 act env shapes (Statement-F.Inter l n m) = change_by env n m false operation.inter
 act env shapes (Statement-F.Minus l n m) = change_by env n m false operation.minus
 act env shapes (Statement-F.SymDiff l n m) = change_by env n m true operation.symdiff
-act env shapes (Statement-F.Subset l n m) = ask_both env n m reading.subset
-act env shapes (Statement-F.Disjoint l n m) = ask_both env n m reading.disjoint
-act env shapes (Statement-F.Equal l n m) = ask_both env n m reading.equal
+act env shapes (Statement-F.Subset l n m) = ask_both env n m query.subset
+act env shapes (Statement-F.Disjoint l n m) = ask_both env n m query.disjoint
+act env shapes (Statement-F.Equal l n m) = ask_both env n m query.equal
 act env shapes (Statement-F.Put l n k v) = change_key env n k (operation.put (record { key = k; value = v }))
 act env shapes (Statement-F.Merge l n m take) = change_by env n m true (operation.merge take)
 act env shapes (Statement-F.Within l n m) = change_by env n m false operation.within

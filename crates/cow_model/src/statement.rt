@@ -55,87 +55,260 @@ pub struct TaskBlock {
 #[derive(Drop)]
 pub enum Statement {
     /// `let NAME = KIND ATOMS`
-    Let { line: u64, name: Name, kind: Kind, atoms: Items<Literal> },
+    Let {
+        line: u64,
+        name: Name,
+        kind: Kind,
+        atoms: Items<Literal>,
+    },
     /// `let NAME = OTHER`
-    Assign { line: u64, name: Name, other: Name },
+    Assign {
+        line: u64,
+        name: Name,
+        other: Name,
+    },
     /// `let NAME = slice OTHER I J`
-    Slice { line: u64, name: Name, other: Name, i: i64, j: i64 },
+    Slice {
+        line: u64,
+        name: Name,
+        other: Name,
+        i: i64,
+        j: i64,
+    },
     /// `drop NAME`
-    Discard { line: u64, name: Name },
+    Discard {
+        line: u64,
+        name: Name,
+    },
     /// `show NAME`
-    Show { line: u64, name: Name },
+    Show {
+        line: u64,
+        name: Name,
+    },
     /// `count NAME`
-    Count { line: u64, name: Name },
+    Count {
+        line: u64,
+        name: Name,
+    },
     /// `append NAME ATOM`
-    Append { line: u64, name: Name, atom: Literal },
+    Append {
+        line: u64,
+        name: Name,
+        atom: Literal,
+    },
     /// `prepend NAME ATOM`
-    Prepend { line: u64, name: Name, atom: Literal },
+    Prepend {
+        line: u64,
+        name: Name,
+        atom: Literal,
+    },
     /// `insert NAME ATOM`
-    Insert { line: u64, name: Name, atom: Literal },
+    Insert {
+        line: u64,
+        name: Name,
+        atom: Literal,
+    },
     /// `insert NAME I ATOM`
-    InsertAt { line: u64, name: Name, i: i64, atom: Literal },
+    InsertAt {
+        line: u64,
+        name: Name,
+        i: i64,
+        atom: Literal,
+    },
     /// `update NAME ATOM`
-    Update { line: u64, name: Name, atom: Literal },
+    Update {
+        line: u64,
+        name: Name,
+        atom: Literal,
+    },
     /// `remove NAME X`
-    Remove { line: u64, name: Name, atom: Literal },
+    Remove {
+        line: u64,
+        name: Name,
+        atom: Literal,
+    },
     /// `removeat NAME I`
-    RemoveAt { line: u64, name: Name, i: i64 },
+    RemoveAt {
+        line: u64,
+        name: Name,
+        i: i64,
+    },
     /// `set NAME I ATOM`
-    Set { line: u64, name: Name, i: i64, atom: Literal },
+    Set {
+        line: u64,
+        name: Name,
+        i: i64,
+        atom: Literal,
+    },
     /// `get NAME X`
-    Get { line: u64, name: Name, atom: Literal },
+    Get {
+        line: u64,
+        name: Name,
+        atom: Literal,
+    },
     /// `at NAME I`
-    At { line: u64, name: Name, i: i64 },
+    At {
+        line: u64,
+        name: Name,
+        i: i64,
+    },
     /// `has NAME ATOM`
-    Has { line: u64, name: Name, atom: Literal },
+    Has {
+        line: u64,
+        name: Name,
+        atom: Literal,
+    },
     /// `place NAME ATOM`
-    Place { line: u64, name: Name, atom: Literal },
+    Place {
+        line: u64,
+        name: Name,
+        atom: Literal,
+    },
     /// `pop NAME END`
-    Pop { line: u64, name: Name, side: Side },
+    Pop {
+        line: u64,
+        name: Name,
+        side: Side,
+    },
     /// `peek NAME END`
-    Peek { line: u64, name: Name, side: Side },
+    Peek {
+        line: u64,
+        name: Name,
+        side: Side,
+    },
     /// `replace NAME END ATOM`
-    Replace { line: u64, name: Name, side: Side, atom: Literal },
+    Replace {
+        line: u64,
+        name: Name,
+        side: Side,
+        atom: Literal,
+    },
     /// `swap NAME I J`
-    Swap { line: u64, name: Name, i: i64, j: i64 },
+    Swap {
+        line: u64,
+        name: Name,
+        i: i64,
+        j: i64,
+    },
     /// `reverse NAME`
-    Reverse { line: u64, name: Name },
+    Reverse {
+        line: u64,
+        name: Name,
+    },
     /// `rotate NAME C`
-    Rotate { line: u64, name: Name, c: i64 },
+    Rotate {
+        line: u64,
+        name: Name,
+        c: i64,
+    },
     /// `splice NAME I J ATOMS`
-    Splice { line: u64, name: Name, i: i64, j: i64, atoms: Items<Literal> },
+    Splice {
+        line: u64,
+        name: Name,
+        i: i64,
+        j: i64,
+        atoms: Items<Literal>,
+    },
     /// `reserve NAME C`
-    Reserve { line: u64, name: Name, c: i64 },
+    Reserve {
+        line: u64,
+        name: Name,
+        c: i64,
+    },
     /// `clear NAME`
-    Clear { line: u64, name: Name },
+    Clear {
+        line: u64,
+        name: Name,
+    },
     /// `rebase NAME`
-    Rebase { line: u64, name: Name },
+    Rebase {
+        line: u64,
+        name: Name,
+    },
     /// `extend NAME OTHER`
-    Extend { line: u64, name: Name, other: Name },
+    Extend {
+        line: u64,
+        name: Name,
+        other: Name,
+    },
     /// `union NAME OTHER`
-    Union { line: u64, name: Name, other: Name },
+    Union {
+        line: u64,
+        name: Name,
+        other: Name,
+    },
     /// `inter NAME OTHER`
-    Inter { line: u64, name: Name, other: Name },
+    Inter {
+        line: u64,
+        name: Name,
+        other: Name,
+    },
     /// `minus NAME OTHER`
-    Minus { line: u64, name: Name, other: Name },
+    Minus {
+        line: u64,
+        name: Name,
+        other: Name,
+    },
     /// `symdiff NAME OTHER`
-    SymDiff { line: u64, name: Name, other: Name },
+    SymDiff {
+        line: u64,
+        name: Name,
+        other: Name,
+    },
     /// `subset NAME OTHER`
-    Subset { line: u64, name: Name, other: Name },
+    Subset {
+        line: u64,
+        name: Name,
+        other: Name,
+    },
     /// `disjoint NAME OTHER`
-    Disjoint { line: u64, name: Name, other: Name },
+    Disjoint {
+        line: u64,
+        name: Name,
+        other: Name,
+    },
     /// `equal NAME OTHER`
-    Equal { line: u64, name: Name, other: Name },
+    Equal {
+        line: u64,
+        name: Name,
+        other: Name,
+    },
     /// `put NAME KEY VALUE`
-    Put { line: u64, name: Name, key: Literal, value: Literal },
+    Put {
+        line: u64,
+        name: Name,
+        key: Literal,
+        value: Literal,
+    },
     /// `merge NAME OTHER keep`, or `take`
-    Merge { line: u64, name: Name, other: Name, take: bool },
+    Merge {
+        line: u64,
+        name: Name,
+        other: Name,
+        take: bool,
+    },
     /// `within NAME OTHER`
-    Within { line: u64, name: Name, other: Name },
+    Within {
+        line: u64,
+        name: Name,
+        other: Name,
+    },
     /// `lazy NAME I VERB`
-    Lazy { line: u64, name: Name, i: i64, verb: Verb },
+    Lazy {
+        line: u64,
+        name: Name,
+        i: i64,
+        verb: Verb,
+    },
     /// `fork`, its tasks and its `end`
-    Fork { line: u64, tasks: Items<TaskBlock> },
+    Fork {
+        line: u64,
+        tasks: Items<TaskBlock>,
+    },
     /// `give NAME as TO`
-    Give { line: u64, name: Name, to: Name },
+    Give {
+        line: u64,
+        name: Name,
+        to: Name,
+    },
 }
