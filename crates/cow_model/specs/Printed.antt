@@ -1,7 +1,6 @@
--- What statements print: a list, or the word of a refusal.
-use Rattle.std.specs.Prelude.{ℤ, List, [], ◌∷◌, ◌++◌, map, codes}
+-- What statements print: texts with commas between them, or the line of a refusal.
+use Rattle.std.specs.Prelude.{List, [], ◌∷◌, ◌++◌, codes}
 use Rattle.std.specs.List.{flat_map}
-use Rattle.std.specs.Fmt.{signed_decimal}
 use Rattle.cow_model.specs.Lexis.{Text}
 use Rattle.cow_model.specs.declared.refusal.Refusal.{Refusal}
 use Rattle.cow_model.specs.declared.refusal.Refusal.TheVariants.{NoName, Full, TextFull}
@@ -18,10 +17,6 @@ behind_comma text = codes ", " ++ text
 abbrev pub separated : List Text → Text
 separated [] = []
 separated (text ∷ texts) = text ++ flat_map behind_comma texts
-
--- the integers in decimal, with commas between them and brackets round them
-abbrev pub list_text : List ℤ → Text
-list_text items = codes "[" ++ separated (map signed_decimal items) ++ codes "]"
 
 -- the word of a refusal
 abbrev pub word_of : Refusal → Text

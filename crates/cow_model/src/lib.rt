@@ -1,10 +1,10 @@
-//! The ground of the library: scripts as they are read, what they mean, and the words of contracts.
+//! The ground of the library: the words of a script, what it prints, and the words of contracts.
 //!
 //! Nothing here shares storage or runs. Its types hold plain values, and its `specs/` say what every
 //! crate above promises:
 //!
-//! - `Lexis`, `Integer`, `Name`, `Script`: which statements the bytes of a script are;
-//! - `Env`, `Printed`, `Run`: what a script prints, on one thread, with a whole list for each value;
+//! - `Lexis`, `Integer`, `Name`: the lines and words of a script, and which words are integers and names;
+//! - `Printed`: lines, texts with commas between them, and the line of a refusal;
 //! - `Fronts`: what may be written of a text when a run stops early;
 //! - `Literals`, `Order`: plain atoms and their order;
 //! - `Purse`, `Flat`, `Lists`: what a contract says of a holder and of a collection over one storage.
@@ -14,10 +14,8 @@ mod memory;
 mod name;
 mod plain;
 mod refusal;
-mod statement;
 
 pub use memory::NoMemory;
 pub use name::Name;
 pub use plain::{Bytes, Literal};
 pub use refusal::Refusal;
-pub use statement::Statement;

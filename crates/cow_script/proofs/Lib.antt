@@ -1,4 +1,0 @@
-pub mod Atoms
-pub mod CutTexts
-pub mod Digits
-pub mod LinesRead
