@@ -7,7 +7,7 @@ use Rattle.std.proofs.lemmas.Bool.{ltb-true}
 use Rattle.std.proofs.lemmas.Option.{slice_get-get_or}
 use Rattle.std.proofs.lemmas.Slice.Eq.{bytes_eq-Decides}
 use Rattle.cow_model.specs.Lexis.{Text}
-use Rattle.cow_model.specs.Env.{Entry, place_of, value_of, given}
+use Rattle.cow_first.specs.Env.{Entry, place_of, value_of, given}
 
 -- what is chosen where a choice gives a value
 chosen : (b : Bool) (n i : ℕ) → cond b (Some n) None ≡ Some i → (b ≡ true) × (n ≡ i)

@@ -1,5 +1,5 @@
 ghost use Rattle.std.specs.Prelude.{◌≡◌};
-ghost use Rattle.cow_model.specs.Env.{start};
+ghost use Rattle.cow_first.specs.Env.{start};
 
 use crate::names::Entry;
 use std::alloc::Global;
@@ -16,7 +16,7 @@ pub struct Env {
 }
 
 impl Model for Env {
-    ghost use Rattle.cow_model.specs.Env.{Env as EnvView, env_code};
+    ghost use Rattle.cow_first.specs.Env.{Env as EnvView, env_code};
 
     ghost Value = { EnvView };
 

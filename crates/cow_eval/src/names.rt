@@ -1,7 +1,7 @@
 // Names with their values, in the order in which they were first given one.
 ghost use Rattle.std.specs.Prelude.{◌≡◌, [], ◌∷◌, ◌++◌, Some, IfSome, OnOk, OnErr};
 ghost use Rattle.std.specs.Option.{option_map};
-ghost use Rattle.cow_model.specs.Env.{place_of, value_of, given};
+ghost use Rattle.cow_first.specs.Env.{place_of, value_of, given};
 
 use cow_model::{Name, NoMemory};
 use sqlite_items::Items;

@@ -1,13 +1,13 @@
 ghost use Rattle.std.specs.Prelude.{◌≡◌, ◌++◌, true, false, OnOk, OnErr, MatchResult};
-ghost use Rattle.cow_model.specs.Env.{place_of};
+ghost use Rattle.cow_first.specs.Env.{place_of};
 ghost use Rattle.cow_model.specs.Fronts.{GrowsWithin};
 ghost use Rattle.cow_model.specs.Printed.{refusal};
-ghost use Rattle.cow_model.specs.Run as spec;
+ghost use Rattle.cow_first.specs.Run as spec;
 
 use crate::env::Env;
 use crate::names::{Entry, find, push, put, value};
-use cow_model::{NoMemory, Refusal, Statement};
-use cow_script::put_list;
+use cow_first::{Statement, put_list};
+use cow_model::{NoMemory, Refusal};
 use sqlite_items::Items;
 use std::alloc::Global;
 

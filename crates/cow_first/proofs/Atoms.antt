@@ -4,7 +4,7 @@ use Rattle.std.specs.Option.{option_map}
 use Rattle.std.proofs.lemmas.Bool.Decides.{nat_tests}
 use Rattle.cow_model.specs.Lexis.{Text}
 use Rattle.cow_model.specs.Integer.{integer_of}
-use Rattle.cow_model.specs.Script.{max_atoms, and_integers, integers_of, atoms_of}
+use Rattle.cow_first.specs.Script.{max_atoms, and_integers, integers_of, atoms_of}
 
 -- integers, and then those of words to come
 abbrev pub and_then : List ℤ → Option (List ℤ) → Option (List ℤ)

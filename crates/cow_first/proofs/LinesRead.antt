@@ -2,8 +2,8 @@
 use Rattle.std.proofs.Common.{◌≡◌, ℕ, ◌+◌, List, [], ◌∷◌, ◌++◌, Option, Some, None, refl, ap, sym, ◌∙◌, append_assoc, append-nil}
 use Rattle.std.specs.Prelude.{Result, Ok, Err}
 use Rattle.cow_model.specs.Lexis.{Text, lines_of, words_of}
-use Rattle.cow_model.specs.Script.{before, with_line, statement_of, script_from, script_of}
-use Rattle.cow_model.specs.declared.statement.Statement.{Statement}
+use Rattle.cow_first.specs.Script.{before, with_line, statement_of, script_from, script_of}
+use Rattle.cow_first.specs.declared.statement.Statement.{Statement}
 
 -- statements, and then what the lines to come say
 abbrev pub and_then : List Statement → Result (List Statement) ℕ → Result (List Statement) ℕ

@@ -2,7 +2,8 @@ ghost use Rattle.std.specs.Prelude.{◌≡◌, ◌++◌, map, OnOk, OnErr};
 ghost use Rattle.std.specs.Io.{StartsWith};
 ghost use Rattle.std.specs.List.{flat_map};
 ghost use Rattle.std.specs.Fmt.{signed_decimal};
-ghost use Rattle.cow_model.specs.Printed.{list_text, separated, behind_comma};
+ghost use Rattle.cow_model.specs.Printed.{separated, behind_comma};
+ghost use Rattle.cow_first.specs.Shown.{list_text};
 
 use cow_model::NoMemory;
 use itoa::Buffer;

@@ -1,9 +1,10 @@
-ghost use Rattle.cow_model.specs.Script.{script_of};
-ghost use Rattle.cow_script.specs.Parse.{Parses};
+ghost use Rattle.cow_first.specs.Script.{script_of};
+ghost use Rattle.cow_first.specs.Parse.{Parses};
 
 use crate::cuts::{next_line, next_word};
-use crate::statement::statement;
-use cow_model::{NoMemory, Statement};
+use crate::forms::statement;
+use crate::statement::Statement;
+use cow_model::NoMemory;
 use sqlite_items::Items;
 use std::alloc::{AllocError, AllocFailed, Global};
 use thiserror::Error;
@@ -26,7 +27,7 @@ pub enum ParseStop {
 
 impl From<NoMemory> for ParseStop {
     ghost use Rattle.std.specs.Prelude.{◌≡◌};
-    ghost use Rattle.cow_script.specs.declared.read.ParseStop.TheVariants.{NoMemory};
+    ghost use Rattle.cow_first.specs.declared.read.ParseStop.TheVariants.{NoMemory};
 
     ghost from_gives = { λ _ e. e ≡ NoMemory };
 
@@ -37,7 +38,7 @@ impl From<NoMemory> for ParseStop {
 
 impl<T: Drop> From<AllocFailed<T>> for ParseStop {
     ghost use Rattle.std.specs.Prelude.{◌≡◌};
-    ghost use Rattle.cow_script.specs.declared.read.ParseStop.TheVariants.{NoMemory};
+    ghost use Rattle.cow_first.specs.declared.read.ParseStop.TheVariants.{NoMemory};
 
     ghost from_gives = { λ _ e. e ≡ NoMemory };
 

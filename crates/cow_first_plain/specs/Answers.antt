@@ -1,9 +1,9 @@
 -- What a script answers, for what its bytes say.
 use Rattle.std.specs.Prelude.{◌≡◌, ℕ, List, Result, Ok, Err}
-use Rattle.cow_model.specs.Run.{text_of}
-use Rattle.cow_model.specs.declared.statement.Statement.{Statement}
-use Rattle.cow_plain.specs.declared.answer.Answer.{Answer}
-use Rattle.cow_plain.specs.declared.answer.Answer.TheVariants.{Text, NotBuilt}
+use Rattle.cow_first.specs.Run.{text_of}
+use Rattle.cow_first.specs.declared.statement.Statement.{Statement}
+use Rattle.cow_first_plain.specs.declared.answer.Answer.{Answer}
+use Rattle.cow_first_plain.specs.declared.answer.Answer.TheVariants.{Text, NotBuilt}
 
 -- the text of its statements, or the first line that is of no form
 abbrev pub Answers : Result (List Statement) ℕ → Answer → Type 0

@@ -1,8 +1,8 @@
 -- The plain types, as the definitions name them.
-use Rattle.cow_model.specs.Env.{Env}
-use Rattle.cow_model.specs.Run as run
-use Rattle.cow_plain.specs.declared.environment.Environment.{Environment}
-use Rattle.cow_plain.specs.declared.step.Outcome.{Outcome}
+use Rattle.cow_first.specs.Env.{Env}
+use Rattle.cow_first.specs.Run as run
+use Rattle.cow_first_plain.specs.declared.environment.Environment.{Environment}
+use Rattle.cow_first_plain.specs.declared.step.Outcome.{Outcome}
 
 -- an environment
 abbrev pub env_of : Environment → Env

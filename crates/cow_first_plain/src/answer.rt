@@ -1,13 +1,13 @@
 // What a script answers.
 ghost use Rattle.std.specs.Prelude.{◌≡◌, IfOk};
-ghost use Rattle.cow_model.specs.Script.{script_of};
-ghost use Rattle.cow_model.specs.Run.{text_of};
-ghost use Rattle.cow_plain.specs.Answers.{Answers};
+ghost use Rattle.cow_first.specs.Script.{script_of};
+ghost use Rattle.cow_first.specs.Run.{text_of};
+ghost use Rattle.cow_first_plain.specs.Answers.{Answers};
 
 use crate::environment::first_environment;
 use crate::step::step;
-use cow_model::{NoMemory, Statement};
-use cow_script::{ParseStop, parse};
+use cow_first::{ParseStop, Statement, parse};
+use cow_model::NoMemory;
 use std::alloc::Global;
 
 /// What a script answers.

@@ -1,8 +1,8 @@
 // Environments, copied whole.
 ghost use Rattle.std.specs.Prelude.{◌≡◌, IfOk};
-ghost use Rattle.cow_model.specs.Env.{start};
-ghost use Rattle.cow_model.specs.Env as spec;
-ghost use Rattle.cow_plain.specs.Views.{env_of};
+ghost use Rattle.cow_first.specs.Env.{start};
+ghost use Rattle.cow_first.specs.Env as spec;
+ghost use Rattle.cow_first_plain.specs.Views.{env_of};
 
 use cow_model::{Name, NoMemory};
 use sqlite_items::Items;

@@ -1,13 +1,13 @@
 // What a statement does.
 ghost use Rattle.std.specs.Prelude.{◌≡◌, ◌++◌, [], ◌∷◌, IfOk};
 ghost use Rattle.std.specs.Option.{option_map};
-ghost use Rattle.cow_model.specs.Env.{value_of};
-ghost use Rattle.cow_model.specs.Run as spec;
-ghost use Rattle.cow_plain.specs.Views.{env_of, outcome_of};
+ghost use Rattle.cow_first.specs.Env.{value_of};
+ghost use Rattle.cow_first.specs.Run as spec;
+ghost use Rattle.cow_first_plain.specs.Views.{env_of, outcome_of};
 
 use crate::environment::{Entry, Environment, copy, given, place_of};
-use cow_model::{NoMemory, Refusal, Statement};
-use cow_script::put_list;
+use cow_first::{Statement, put_list};
+use cow_model::{NoMemory, Refusal};
 use sqlite_items::Items;
 use std::alloc::Global;
 

@@ -3,9 +3,9 @@ use Rattle.std.proofs.Common.{◌≡◌, ℕ, ◌+◌, ◌<◌, List, ◌∷◌,
 use Rattle.std.specs.Prelude.{Option}
 use Rattle.std.proofs.lemmas.List.{at_drop_more}
 use Rattle.std.specs.Io.KnownBytes.{Appends}
-use Rattle.cow_model.specs.Env.{Env}
-use Rattle.cow_model.specs.Run.{step, text_from}
-use Rattle.cow_model.specs.declared.statement.Statement.{Statement}
+use Rattle.cow_first.specs.Env.{Env}
+use Rattle.cow_first.specs.Run.{step, text_from}
+use Rattle.cow_first.specs.declared.statement.Statement.{Statement}
 use Rattle.cowrun.specs.Answer.{IsLine}
 use Rattle.cowrun.specs.Output.{WritesFront, WritesLine}
 use Rattle.cowrun.proofs.Known.{appends_more}

@@ -4,9 +4,9 @@ use Rattle.std.specs.Fmt.{decimal}
 use Rattle.std.specs.Io.KnownBytes.{Consumes, Appends, IsAtEnd}
 use Rattle.cow_model.specs.Lexis.{Text}
 use Rattle.cow_model.specs.Fronts.{IsFrontOf}
-use Rattle.cow_model.specs.Script.{script_of}
-use Rattle.cow_model.specs.Run.{text_of}
-use Rattle.cow_model.specs.declared.statement.Statement.{Statement}
+use Rattle.cow_first.specs.Script.{script_of}
+use Rattle.cow_first.specs.Run.{text_of}
+use Rattle.cow_first.specs.declared.statement.Statement.{Statement}
 use Rattle.cowrun.specs.Input.{max_bytes}
 use Rattle.cowrun.specs.declared.status.Status.{Status}
 use Rattle.cowrun.specs.declared.status.Status.TheVariants.{Ok, Usage, ReadFault, WriteFault, NoMemory, NotYet}

@@ -1,7 +1,7 @@
 // Running a script: from a source to a sink.
 ghost use Rattle.std.specs.Prelude.{◌≡◌, ◌≢◌, ◌≤◌, OnOk, OnErr, IsErrOf};
 ghost use Rattle.std.specs.Io.KnownBytes.{Appends};
-ghost use Rattle.cow_model.specs.Run.{step, text_of};
+ghost use Rattle.cow_first.specs.Run.{step, text_of};
 ghost use Rattle.cow_port.specs.Causes.{Rose};
 ghost use Rattle.cowrun.specs.Output.{WritesFront};
 ghost use Rattle.cowrun.specs.Answer.{Answers};
@@ -10,9 +10,8 @@ use crate::input::{ReadStop, read_all};
 use crate::output::{write_all, write_not_built};
 use crate::status::Status;
 use cow_eval::{Env, run_statement};
-use cow_model::Statement;
+use cow_first::{ParseStop, Statement, parse};
 use cow_port::{Sink, Source};
-use cow_script::{ParseStop, parse};
 use std::alloc::Global;
 
 // Why a script was not run to its end.

@@ -1,7 +1,7 @@
 // The program as a user sees it: what it prints and how it ends.
 use crate::command::cowrun;
 use crate::status::Status;
-use cow_plain::{Answer, answer_of};
+use cow_first_plain::{Answer, answer_of};
 use cow_port::{MemorySink, MemorySource, PlainSource};
 use std::alloc::Global;
 use std::test::Fail;

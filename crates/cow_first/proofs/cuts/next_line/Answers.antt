@@ -1,8 +1,8 @@
 use Rattle.std.proofs.Common.{◌≡◌, ◌<◌, [], length, refl, rules}
 use Rattle.std.proofs.lemmas.List.{nil_from_length}
 use Rattle.cow_model.specs.Lexis.{lines_of}
-use Rattle.cow_script.proofs.CutTexts.{lines_of_cut}
-use Rattle.cow_script.proofs.cuts.next_line.Goals as goal
+use Rattle.cow_first.proofs.CutTexts.{lines_of_cut}
+use Rattle.cow_first.proofs.cuts.next_line.Goals as goal
 
 pub returns-then-is_empty-clause-line : goal.returns-then-is_empty-clause-line
 unfolding lines_of

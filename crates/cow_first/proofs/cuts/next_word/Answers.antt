@@ -1,8 +1,8 @@
 use Rattle.std.proofs.Common.{◌≡◌, [], refl, sym, ◌∙◌, rules}
 use Rattle.std.proofs.lemmas.List.{nil_from_length}
 use Rattle.cow_model.specs.Lexis.{words_of}
-use Rattle.cow_script.proofs.CutTexts.{words_of_space, words_of_word}
-use Rattle.cow_script.proofs.cuts.next_word.Goals as goal
+use Rattle.cow_first.proofs.CutTexts.{words_of_space, words_of_word}
+use Rattle.cow_first.proofs.cuts.next_word.Goals as goal
 
 no_words : goal.returns-clause-word
 unfolding words_of

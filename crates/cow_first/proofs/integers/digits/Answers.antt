@@ -1,6 +1,6 @@
 use Rattle.std.proofs.Common.{arith}
-use Rattle.cow_script.proofs.Digits.{one_digit_more, front_below}
-use Rattle.cow_script.proofs.integers.digits.Goals as goal
+use Rattle.cow_first.proofs.Digits.{one_digit_more, front_below}
+use Rattle.cow_first.proofs.integers.digits.Goals as goal
 
 pub returns-in_err-checked_mul : goal.returns-in_err-checked_mul
 returns-in_err-checked_mul c =

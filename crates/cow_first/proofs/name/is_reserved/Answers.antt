@@ -1,5 +1,5 @@
 use Rattle.cow_model.specs.Name.{is_reserved}
-use Rattle.cow_script.proofs.name.is_reserved.Goals as goal
+use Rattle.cow_first.proofs.name.is_reserved.Goals as goal
 
 pub returns : goal.returns
 unfolding is_reserved

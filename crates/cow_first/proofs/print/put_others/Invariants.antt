@@ -3,7 +3,7 @@ use Rattle.std.specs.Io.{StartsWith}
 use Rattle.std.specs.List.{flat_map}
 use Rattle.std.specs.Fmt.{signed_decimal}
 use Rattle.cow_model.specs.Printed.{behind_comma}
-use Rattle.cow_script.proofs.print.put_others.Given as goal
+use Rattle.cow_first.proofs.print.put_others.Given as goal
 
 -- the text so far, and then the items to come
 abbrev pub invariant-loop-item : goal.invariant-loop-item

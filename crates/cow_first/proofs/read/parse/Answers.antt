@@ -1,8 +1,8 @@
 use Rattle.std.proofs.Common.{sym, ◌∙◌, arith}
 use Rattle.cow_model.specs.Lexis.{words_of}
-use Rattle.cow_model.specs.Script.{script_of}
-use Rattle.cow_script.proofs.LinesRead.{read_more}
-use Rattle.cow_script.proofs.read.parse.Goals as goal
+use Rattle.cow_first.specs.Script.{script_of}
+use Rattle.cow_first.proofs.LinesRead.{read_more}
+use Rattle.cow_first.proofs.read.parse.Goals as goal
 
 pub loop-text-preserved-in_ok-push : goal.loop-text-preserved-in_ok-push
 loop-text-preserved-in_ok-push c =

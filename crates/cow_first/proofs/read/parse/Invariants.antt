@@ -1,7 +1,7 @@
 use Rattle.std.proofs.Common.{◌≤◌, ◌+◌, length}
-use Rattle.cow_model.specs.Script.{script_of}
-use Rattle.cow_script.proofs.LinesRead.{ReadSoFar}
-use Rattle.cow_script.proofs.read.parse.Given as goal
+use Rattle.cow_first.specs.Script.{script_of}
+use Rattle.cow_first.proofs.LinesRead.{ReadSoFar}
+use Rattle.cow_first.proofs.read.parse.Given as goal
 
 -- what was read so far, and that there are no more lines than bytes
 abbrev pub invariant-loop-text : goal.invariant-loop-text

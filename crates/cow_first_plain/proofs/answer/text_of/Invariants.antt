@@ -1,7 +1,7 @@
 use Rattle.std.proofs.Common.{◌≡◌, ◌++◌, drop}
-use Rattle.cow_model.specs.Run.{text_from, text_of}
-use Rattle.cow_plain.specs.Views.{env_of}
-use Rattle.cow_plain.proofs.answer.text_of.Given as goal
+use Rattle.cow_first.specs.Run.{text_from, text_of}
+use Rattle.cow_first_plain.specs.Views.{env_of}
+use Rattle.cow_first_plain.proofs.answer.text_of.Given as goal
 
 -- the text so far, and that of the statements to come
 abbrev pub invariant-loop-statement : goal.invariant-loop-statement

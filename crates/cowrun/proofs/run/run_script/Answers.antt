@@ -1,6 +1,6 @@
 use Rattle.std.proofs.Common.{◌+◌, arith, rules, drop, sym, subst}
 use Rattle.std.proofs.lemmas.Result.{err_from_is_err_and}
-use Rattle.cow_model.specs.Run.{text_from, text_of}
+use Rattle.cow_first.specs.Run.{text_from, text_of}
 use Rattle.cowrun.proofs.Ran.{HasWritten, written_more, front_more, next_text}
 use Rattle.cowrun.proofs.run.run_script.Goals as goal
 

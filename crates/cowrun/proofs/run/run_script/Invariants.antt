@@ -1,5 +1,5 @@
 use Rattle.std.proofs.Common.{◌≤◌, drop}
-use Rattle.cow_model.specs.Run.{text_from, text_of}
+use Rattle.cow_first.specs.Run.{text_from, text_of}
 use Rattle.cowrun.proofs.Ran.{HasWritten}
 use Rattle.cowrun.proofs.run.run_script.Given as goal
 

@@ -1,7 +1,7 @@
 use Rattle.std.proofs.Common.{length}
 use Rattle.cow_model.specs.Lexis.{words_of}
-use Rattle.cow_script.proofs.Atoms.{AtomsSoFar}
-use Rattle.cow_script.proofs.statement.atoms.Given as goal
+use Rattle.cow_first.proofs.Atoms.{AtomsSoFar}
+use Rattle.cow_first.proofs.forms.atoms.Given as goal
 
 abbrev pub invariant-loop-word : goal.invariant-loop-word
 invariant-loop-word l = AtomsSoFar l.found.items (words_of l.rest) (words_of l.words)
