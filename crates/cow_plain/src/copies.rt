@@ -1,7 +1,8 @@
 // Whole copies of plain data.
 ghost use Rattle.std.specs.Prelude.{◌≡◌, IfOk};
 
-use cow_model::{Bytes, Literal, NoMemory, Pair};
+use crate::lists::copied;
+use cow_model::{Bytes, Literal, NoMemory, Pair, Plain};
 use std::alloc::Global;
 
 /// Plain data that can be copied whole.
@@ -28,5 +29,25 @@ impl Whole for Pair {
         let key = self.key.whole(alloc)?;
         let value = self.value.whole(alloc)?;
         Ok(Pair { key, value })
+    }
+}
+
+impl Whole for Plain {
+    fn whole(&self, alloc: Global) -> Result<Self, NoMemory> {
+        Ok(match self {
+            Plain::Array(items) => Plain::Array(copied(alloc, items.as_slice())?),
+            Plain::Slice { start, items } => Plain::Slice {
+                start: *start,
+                items: copied(alloc, items.as_slice())?,
+            },
+            Plain::Deque(items) => Plain::Deque(copied(alloc, items.as_slice())?),
+            Plain::Set(items) => Plain::Set(copied(alloc, items.as_slice())?),
+            Plain::Dict(pairs) => Plain::Dict(copied(alloc, pairs.as_slice())?),
+            Plain::OSet(items) => Plain::OSet(copied(alloc, items.as_slice())?),
+            Plain::ODict(pairs) => Plain::ODict(copied(alloc, pairs.as_slice())?),
+            Plain::Heap(items) => Plain::Heap(copied(alloc, items.as_slice())?),
+            Plain::TSet(items) => Plain::TSet(copied(alloc, items.as_slice())?),
+            Plain::TDict(pairs) => Plain::TDict(copied(alloc, pairs.as_slice())?),
+        })
     }
 }

@@ -6,7 +6,9 @@
 #![tactic(auto)]
 
 mod copies;
+mod environment;
 mod lists;
 mod members;
+mod step;
 
 pub use copies::Whole;
