@@ -8,5 +8,6 @@
 mod copies;
 mod lists;
 mod members;
+mod printed;
 
 pub use copies::Whole;
