@@ -9,6 +9,7 @@ mod copies;
 mod environment;
 mod lists;
 mod members;
+mod printed;
 mod step;
 
 pub use copies::Whole;

@@ -37,7 +37,12 @@ pub fn joined<T: Whole>(alloc: Global, items: &[T], others: &[T]) -> Result<Item
 }
 
 /// The items with one more at a place up to their end.
-pub fn inserted<T: Whole>(alloc: Global, items: &[T], place: usize, item: &T) -> Result<Items<T>, NoMemory>
+pub fn inserted<T: Whole>(
+    alloc: Global,
+    items: &[T],
+    place: usize,
+    item: &T,
+) -> Result<Items<T>, NoMemory>
     requires { place ≤ length items.now }
     ensures { IfOk result (λ made. made ≡ list.insert items.now place item.now) }
 {
