@@ -7,8 +7,10 @@
 
 mod copies;
 mod environment;
+mod lazy;
 mod lists;
 mod members;
+mod plain;
 mod printed;
 mod step;
 

@@ -1,0 +1,50 @@
+// Lazy views of an array through a rule.
+ghost use Rattle.std.specs.Prelude.{◌≡◌, IfOk};
+ghost use Rattle.cow_model.specs.Lazy as spec;
+
+use crate::copies::Whole;
+use cow_model::{Literal, NoMemory, Shape};
+use sqlite_items::Items;
+use std::alloc::Global;
+
+// What a rule makes of an integer.
+fn value_by(shape: Shape, x: i64) -> i64
+    ensures { result ≡ spec.value_by shape x }
+{
+    match shape {
+        Shape::Add(k) => x.saturating_add(k),
+        Shape::Negate => x.checked_neg().unwrap_or(i64::MAX),
+        Shape::Even | Shape::Below(_) => x,
+    }
+}
+
+// Whether a rule keeps an integer.
+fn keeps(shape: Shape, x: i64) -> bool
+    ensures { result ≡ spec.keeps shape x }
+{
+    match shape {
+        Shape::Add(_) | Shape::Negate => true,
+        Shape::Even => x.unsigned_abs() % 2 == 0,
+        Shape::Below(k) => x < k,
+    }
+}
+
+// An atom through a rule that maps.
+fn mapped(alloc: Global, shape: Shape, atom: &Literal) -> Result<Literal, NoMemory>
+    ensures { IfOk result (λ made. made ≡ spec.mapped shape atom.now) }
+{
+    match atom {
+        Literal::Int(x) => Ok(Literal::Int(value_by(shape, *x))),
+        Literal::Text(_) => atom.whole(alloc),
+    }
+}
+
+// Whether a rule that filters keeps an atom.
+fn passes(shape: Shape, atom: &Literal) -> bool
+    ensures { result ≡ spec.passes shape atom.now }
+{
+    match atom {
+        Literal::Int(x) => keeps(shape, *x),
+        Literal::Text(_) => false,
+    }
+}
