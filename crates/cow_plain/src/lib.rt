@@ -8,6 +8,7 @@
 mod copies;
 mod lists;
 mod members;
+mod pairs;
 mod printed;
 
 pub use copies::Whole;
