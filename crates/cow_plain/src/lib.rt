@@ -8,6 +8,7 @@
 mod copies;
 mod lists;
 mod members;
+mod operation;
 mod pairs;
 mod printed;
 
