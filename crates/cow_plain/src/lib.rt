@@ -10,8 +10,11 @@ mod environment;
 mod lazy;
 mod lists;
 mod members;
+mod operation;
+mod pairs;
 mod plain;
 mod printed;
+mod query;
 mod step;
 
 pub use copies::Whole;
