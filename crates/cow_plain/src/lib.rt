@@ -15,6 +15,6 @@ mod pairs;
 mod plain;
 mod printed;
 mod query;
-mod step;
+mod sharing;
 
 pub use copies::Whole;
