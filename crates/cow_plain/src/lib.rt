@@ -11,6 +11,7 @@ mod lazy;
 mod lists;
 mod members;
 mod operation;
+mod outcomes;
 mod pairs;
 mod plain;
 mod printed;
