@@ -1,2 +1,3 @@
+pub mod Combinings
 pub mod Kinds
 pub mod Placings
