@@ -1,2 +1,4 @@
 pub mod Changes
+pub mod Combinings
+pub mod Kinds
 pub mod Placings

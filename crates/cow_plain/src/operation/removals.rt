@@ -1,0 +1,219 @@
+// Statements that take something out of a value.
+ghost use Rattle.std.specs.Prelude.{◌≡◌, ◌<◌, length, IfOk, IfSome};
+ghost use Rattle.cow_model.specs.Members as members;
+ghost use Rattle.cow_model.specs.Operation as spec;
+ghost use Rattle.cow_model.specs.Pairs as maps;
+ghost use Rattle.cow_plain.specs.Kinds.{of_items, of_pairs};
+
+use crate::lists::{copied, removed};
+use crate::members::{Placing, place, place_in};
+use crate::operation::answers::{
+    Answer, element, first_index, index, last_index, out_of_range, replies, wrong,
+};
+use crate::operation::kinds::{Listed, Mapped};
+use crate::pairs::{self, value_in};
+use crate::printed::{atom_text, nil_or};
+use cow_model::{Literal, NoMemory, Pair, Plain, Side};
+use std::alloc::Global;
+
+// The element at a place goes.
+fn removed_item(
+    alloc: Global,
+    kind: Listed,
+    items: &[Literal],
+    at: usize,
+) -> Result<Answer, NoMemory>
+    requires { at < length items.now }
+    ensures { IfOk result (λ answer. answer ≡ spec.removed (of_items kind) items.now at) }
+{
+    let old = element(alloc, items, at)?;
+    replies(alloc, old.as_slice(), kind.of(removed(alloc, items, at)?))
+}
+
+// The element at a position goes, where the position is an integer.
+fn removed_at(
+    alloc: Global,
+    kind: Listed,
+    position: &Literal,
+    items: &[Literal],
+) -> Result<Answer, NoMemory>
+    ensures { IfOk result (λ answer. answer ≡ spec.removed_at (of_items kind) position.now items.now) }
+{
+    let Literal::Int(i) = position else {
+        return wrong();
+    };
+    match index(0, items.len(), *i) {
+        Some(at) => removed_item(alloc, kind, items, at),
+        None => out_of_range(),
+    }
+}
+
+// A member goes, where it is there.
+fn removed_member(
+    alloc: Global,
+    kind: Listed,
+    atom: &Literal,
+    items: &[Literal],
+) -> Result<Answer, NoMemory>
+    ensures { IfOk result (λ answer. answer ≡ spec.removed_member (of_items kind) items.now (members.place_in atom.now items.now)) }
+{
+    match place_in(atom, items) {
+        Some(at) => removed_item(alloc, kind, items, at),
+        None => replies(alloc, b"nil", kind.of(copied(alloc, items)?)),
+    }
+}
+
+// The pair of a key goes, where it is there, and its value is printed.
+fn removed_key(
+    alloc: Global,
+    kind: Mapped,
+    key: &Literal,
+    pairs: &[Pair],
+) -> Result<Answer, NoMemory>
+    ensures { IfOk result (λ answer. answer ≡ spec.removed_key (of_pairs kind) pairs.now key.now (maps.place_in key.now pairs.now)) }
+{
+    match pairs::place_in(key, pairs) {
+        Some(at) => {
+            let old = nil_or(alloc, value_in(key, pairs))?;
+            replies(alloc, old.as_slice(), kind.of(removed(alloc, pairs, at)?))
+        }
+        None => replies(alloc, b"nil", kind.of(copied(alloc, pairs)?)),
+    }
+}
+
+/// `remove N X`
+pub fn remove(alloc: Global, x: &Literal, value: &Plain) -> Result<Answer, NoMemory>
+    ensures { IfOk result (λ answer. answer ≡ spec.remove x.now value.now) }
+{
+    match value {
+        Plain::Array(items) => removed_at(alloc, Listed::Array, x, items.as_slice()),
+        Plain::Deque(items) => removed_at(alloc, Listed::Deque, x, items.as_slice()),
+        Plain::Set(items) => removed_member(alloc, Listed::Set, x, items.as_slice()),
+        Plain::TSet(items) => removed_member(alloc, Listed::TSet, x, items.as_slice()),
+        Plain::OSet(items) => removed_member(alloc, Listed::OSet, x, items.as_slice()),
+        Plain::Dict(pairs) => removed_key(alloc, Mapped::Dict, x, pairs.as_slice()),
+        Plain::ODict(pairs) => removed_key(alloc, Mapped::ODict, x, pairs.as_slice()),
+        Plain::TDict(pairs) => removed_key(alloc, Mapped::TDict, x, pairs.as_slice()),
+        _ => wrong(),
+    }
+}
+
+// The pair at a place goes.
+fn removed_pair(alloc: Global, i: i64, pairs: &[Pair]) -> Result<Answer, NoMemory>
+    ensures { IfOk result (λ answer. answer ≡ spec.remove_at i (Plain.ODict pairs.now)) }
+{
+    match index(0, pairs.len(), i) {
+        Some(at) => {
+            let old = nil_or(alloc, pairs.get(at))?;
+            let pairs = removed(alloc, pairs, at)?;
+            replies(alloc, old.as_slice(), Plain::ODict(pairs))
+        }
+        None => out_of_range(),
+    }
+}
+
+/// `removeat N I`
+pub fn remove_at(alloc: Global, i: i64, value: &Plain) -> Result<Answer, NoMemory>
+    ensures { IfOk result (λ answer. answer ≡ spec.remove_at i value.now) }
+{
+    match value {
+        Plain::OSet(items) => match index(0, items.len(), i) {
+            Some(at) => removed_item(alloc, Listed::OSet, items.as_slice(), at),
+            None => out_of_range(),
+        },
+        Plain::ODict(pairs) => removed_pair(alloc, i, pairs.as_slice()),
+        _ => wrong(),
+    }
+}
+
+// The first element goes, where there is one.
+fn first_popped(alloc: Global, kind: Listed, items: &[Literal]) -> Result<Answer, NoMemory>
+    ensures { IfOk result (λ answer. answer ≡ spec.first_popped (of_items kind) items.now) }
+{
+    match items {
+        [] => replies(alloc, b"nil", kind.of(copied(alloc, items)?)),
+        [first, others @ ..] => {
+            let text = atom_text(alloc, first)?;
+            replies(alloc, text.as_slice(), kind.of(copied(alloc, others)?))
+        }
+    }
+}
+
+// The last element goes, where there is one.
+fn last_popped(alloc: Global, kind: Listed, items: &[Literal]) -> Result<Answer, NoMemory>
+    ensures { IfOk result (λ answer. answer ≡ spec.last_popped (of_items kind) items.now) }
+{
+    let last = items.len().saturating_sub(1);
+    let text = element(alloc, items, last)?;
+    let items = copied(alloc, &items[..last])?;
+    replies(alloc, text.as_slice(), kind.of(items))
+}
+
+// The first element of a slice goes, where there is one, and with it its index.
+fn slice_popped(alloc: Global, start: u64, items: &[Literal]) -> Result<Answer, NoMemory>
+    ensures { IfOk result (λ answer. answer ≡ spec.slice_popped start items.now) }
+{
+    match items {
+        [] => {
+            let items = copied(alloc, items)?;
+            replies(alloc, b"nil", Plain::Slice { start, items })
+        }
+        [first, others @ ..] => {
+            let text = atom_text(alloc, first)?;
+            let start = start.checked_add(1).ok_or(NoMemory)?;
+            let items = copied(alloc, others)?;
+            replies(alloc, text.as_slice(), Plain::Slice { start, items })
+        }
+    }
+}
+
+/// `pop N END`
+pub fn pop(alloc: Global, side: Side, value: &Plain) -> Result<Answer, NoMemory>
+    ensures { IfOk result (λ answer. answer ≡ spec.pop side value.now) }
+{
+    match (side, value) {
+        (Side::Last, Plain::Array(items)) => last_popped(alloc, Listed::Array, items.as_slice()),
+        (Side::First, Plain::Slice { start, items }) => {
+            slice_popped(alloc, *start, items.as_slice())
+        }
+        (Side::First, Plain::Deque(items)) => first_popped(alloc, Listed::Deque, items.as_slice()),
+        (Side::Last, Plain::Deque(items)) => last_popped(alloc, Listed::Deque, items.as_slice()),
+        (Side::Min, Plain::Heap(items)) => first_popped(alloc, Listed::Heap, items.as_slice()),
+        (Side::Max, Plain::Heap(items)) => last_popped(alloc, Listed::Heap, items.as_slice()),
+        _ => wrong(),
+    }
+}
+
+// An element of a heap becomes another.
+fn replaced(
+    alloc: Global,
+    atom: &Literal,
+    items: &[Literal],
+    at: Option<usize>,
+) -> Result<Answer, NoMemory>
+    requires { IfSome at (λ k. k < length items.now) }
+    ensures { IfOk result (λ answer. answer ≡ spec.replaced atom.now items.now at) }
+{
+    let Some(at) = at else {
+        return out_of_range();
+    };
+    let old = element(alloc, items, at)?;
+    let rest = removed(alloc, items, at)?;
+    let items = place(alloc, Placing::InOrder, atom, rest.as_slice())?;
+    replies(alloc, old.as_slice(), Plain::Heap(items))
+}
+
+/// `replace N END A`
+pub fn replace(alloc: Global, side: Side, atom: &Literal, value: &Plain) -> Result<Answer, NoMemory>
+    ensures { IfOk result (λ answer. answer ≡ spec.replace side atom.now value.now) }
+{
+    match (side, value) {
+        (Side::Min, Plain::Heap(items)) => {
+            replaced(alloc, atom, items.as_slice(), first_index(items.len()))
+        }
+        (Side::Max, Plain::Heap(items)) => {
+            replaced(alloc, atom, items.as_slice(), last_index(items.len()))
+        }
+        _ => wrong(),
+    }
+}
