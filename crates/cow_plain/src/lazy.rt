@@ -1,5 +1,5 @@
 // Lazy views of an array through a rule.
-ghost use Rattle.std.specs.Prelude.{◌≡◌, IfOk};
+ghost use Rattle.std.specs.Prelude.{◌≡◌, IfOk, map, filter};
 ghost use Rattle.cow_model.specs.Lazy as spec;
 
 use crate::copies::Whole;
@@ -46,5 +46,39 @@ fn passes(shape: Shape, atom: &Literal) -> bool
     match atom {
         Literal::Int(x) => keeps(shape, *x),
         Literal::Text(_) => false,
+    }
+}
+
+// The atoms through a rule that maps.
+fn all_mapped(alloc: Global, shape: Shape, items: &[Literal]) -> Result<Items<Literal>, NoMemory>
+    ensures { IfOk result (λ made. made ≡ map (spec.mapped shape) items.now) }
+{
+    let mut made = Vec::new(alloc);
+    for atom in items {
+        made.push(mapped(alloc, shape, atom)?)?;
+    }
+    Ok(Items::from_vec(made))
+}
+
+// The atoms that a rule keeps.
+fn all_kept(alloc: Global, shape: Shape, items: &[Literal]) -> Result<Items<Literal>, NoMemory>
+    ensures { IfOk result (λ made. made ≡ filter (spec.passes shape) items.now) }
+{
+    let mut made = Vec::new(alloc);
+    for atom in items {
+        if passes(shape, atom) {
+            made.push(atom.whole(alloc)?)?;
+        }
+    }
+    Ok(Items::from_vec(made))
+}
+
+/// The atoms of a view.
+pub fn view(alloc: Global, shape: Shape, items: &[Literal]) -> Result<Items<Literal>, NoMemory>
+    ensures { IfOk result (λ made. made ≡ spec.view shape items.now) }
+{
+    match shape {
+        Shape::Add(_) | Shape::Negate => all_mapped(alloc, shape, items),
+        Shape::Even | Shape::Below(_) => all_kept(alloc, shape, items),
     }
 }

@@ -17,5 +17,7 @@ mod plain;
 mod printed;
 mod query;
 mod sharing;
+mod statements;
+mod step;
 
 pub use copies::Whole;

@@ -17,7 +17,8 @@ use std::alloc::Global;
 /// The text of a line, or why there is none.
 pub type Told = Result<Bytes, Refusal>;
 
-fn wrong() -> Result<Told, NoMemory>
+/// A statement has nothing for values of this kind.
+pub fn no_answer() -> Result<Told, NoMemory>
     ensures { IfOk result (λ told. told ≡ spec.wrong) }
 {
     Ok(Err(Refusal::WrongKind))
@@ -40,7 +41,7 @@ fn get_at(
     ensures { IfOk result (λ told. told ≡ spec.get_at start x.now items.now) }
 {
     let Literal::Int(i) = x else {
-        return wrong();
+        return no_answer();
     };
     element_at(alloc, index(start, items.len(), *i), items)
 }
@@ -79,7 +80,7 @@ pub fn get(alloc: Global, x: &Literal, value: &Plain) -> Result<Told, NoMemory>
         Plain::Dict(pairs) | Plain::ODict(pairs) | Plain::TDict(pairs) => {
             Ok(Ok(nil_or(alloc, value_in(x, pairs.as_slice()))?))
         }
-        _ => wrong(),
+        _ => no_answer(),
     }
 }
 
@@ -90,7 +91,7 @@ pub fn at(alloc: Global, i: i64, value: &Plain) -> Result<Told, NoMemory>
     match value {
         Plain::OSet(items) => element_at(alloc, index(0, items.len(), i), items.as_slice()),
         Plain::ODict(pairs) => pair_at(alloc, index(0, pairs.len(), i), pairs.as_slice()),
-        _ => wrong(),
+        _ => no_answer(),
     }
 }
 
@@ -103,7 +104,7 @@ pub fn has(alloc: Global, a: &Literal, value: &Plain) -> Result<Told, NoMemory>
         Plain::Dict(pairs) | Plain::ODict(pairs) | Plain::TDict(pairs) => {
             pairs::place_in(a, pairs.as_slice()).is_some()
         }
-        _ => return wrong(),
+        _ => return no_answer(),
     };
     Ok(Ok(truth(alloc, there)?))
 }
@@ -125,7 +126,7 @@ pub fn place(alloc: Global, a: &Literal, value: &Plain) -> Result<Told, NoMemory
     let place = match value {
         Plain::OSet(items) => place_in(a, items.as_slice()),
         Plain::ODict(pairs) => pairs::place_in(a, pairs.as_slice()),
-        _ => return wrong(),
+        _ => return no_answer(),
     };
     Ok(Ok(place_text(alloc, place)?))
 }
@@ -140,7 +141,7 @@ pub fn peek(alloc: Global, side: Side, value: &Plain) -> Result<Told, NoMemory>
             let last = items.len().saturating_sub(1);
             Ok(Ok(element(alloc, items.as_slice(), last)?))
         }
-        _ => wrong(),
+        _ => no_answer(),
     }
 }
 
@@ -155,7 +156,7 @@ pub fn subset(alloc: Global, value: &Plain, other: &Plain) -> Result<Told, NoMem
             let answer = is_subset(items.as_slice(), others.as_slice());
             Ok(Ok(truth(alloc, answer)?))
         }
-        _ => wrong(),
+        _ => no_answer(),
     }
 }
 
@@ -170,7 +171,7 @@ pub fn disjoint(alloc: Global, value: &Plain, other: &Plain) -> Result<Told, NoM
             let answer = are_disjoint(items.as_slice(), others.as_slice());
             Ok(Ok(truth(alloc, answer)?))
         }
-        _ => wrong(),
+        _ => no_answer(),
     }
 }
 
@@ -192,7 +193,7 @@ pub fn equal(alloc: Global, value: &Plain, other: &Plain) -> Result<Told, NoMemo
         | (Plain::TDict(pairs), Plain::TDict(others)) => {
             same_list(pairs.as_slice(), others.as_slice())
         }
-        _ => return wrong(),
+        _ => return no_answer(),
     };
     Ok(Ok(truth(alloc, answer)?))
 }
