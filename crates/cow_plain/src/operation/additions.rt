@@ -11,7 +11,7 @@ use crate::lists::{copied, inserted};
 use crate::members::{Placing, ascending, member, place, union};
 use crate::operation::answers::{Answer, index_to_end, out_of_range, replies, silent, wrong};
 use crate::operation::kinds::{Listed, Mapped};
-use crate::pairs::{paired, put_all, value_in};
+use crate::pairs::{self, paired, put_all, value_in};
 use crate::printed::{atom_text, nil_or};
 use cow_model::{Kind, Literal, NoMemory, Pair, Plain};
 use sqlite_items::Items;
@@ -51,7 +51,7 @@ pub fn made(alloc: Global, kind: Kind, atoms: &[Literal]) -> Result<Plain, NoMem
     })
 }
 
-// A set with a member, and whether it is new.
+// A set with a member, and if it is new.
 fn joined(
     alloc: Global,
     kind: Listed,
@@ -69,7 +69,7 @@ fn joined(
     }
 }
 
-// An ordered set with a member at a place, and whether it is new.
+// An ordered set with a member at a place, and if it is new.
 fn joined_at(
     alloc: Global,
     at: usize,
@@ -87,7 +87,7 @@ fn joined_at(
     }
 }
 
-/// `append N A`
+/// `append N A`: one more element at the end, or member of an ordered set, which says if it is new.
 pub fn append(alloc: Global, atom: &Literal, value: &Plain) -> Result<Answer, NoMemory>
     ensures { IfOk result (λ answer. answer ≡ spec.append atom.now value.now) }
 {
@@ -110,7 +110,7 @@ pub fn append(alloc: Global, atom: &Literal, value: &Plain) -> Result<Answer, No
     }
 }
 
-/// `prepend N A`
+/// `prepend N A`: one more element at the front.
 pub fn prepend(alloc: Global, atom: &Literal, value: &Plain) -> Result<Answer, NoMemory>
     ensures { IfOk result (λ answer. answer ≡ spec.prepend atom.now value.now) }
 {
@@ -123,7 +123,7 @@ pub fn prepend(alloc: Global, atom: &Literal, value: &Plain) -> Result<Answer, N
     }
 }
 
-/// `insert N A`
+/// `insert N A`: one more member, or one more element of a heap. A set says if it is new.
 pub fn insert(alloc: Global, atom: &Literal, value: &Plain) -> Result<Answer, NoMemory>
     ensures { IfOk result (λ answer. answer ≡ spec.insert atom.now value.now) }
 {
@@ -175,7 +175,7 @@ fn joined_to_end(
     }
 }
 
-/// `insert N I A`
+/// `insert N I A`: one more element at a place up to the end. An ordered set says if it is new.
 pub fn insert_at(alloc: Global, i: i64, atom: &Literal, value: &Plain) -> Result<Answer, NoMemory>
     ensures { IfOk result (λ answer. answer ≡ spec.insert_at i atom.now value.now) }
 {
@@ -206,7 +206,7 @@ fn updated(
     }
 }
 
-/// `update N A`
+/// `update N A`: one more member; the old one, or `nil`, is printed.
 pub fn update(alloc: Global, atom: &Literal, value: &Plain) -> Result<Answer, NoMemory>
     ensures { IfOk result (λ answer. answer ≡ spec.update atom.now value.now) }
 {
@@ -237,11 +237,11 @@ fn put_in(
     ensures { IfOk result (λ answer. answer ≡ spec.put_in (of_pairs kind) (pair_placing_of placing) pair.now pairs.now) }
 {
     let old = nil_or(alloc, value_in(&pair.key, pairs))?;
-    let pairs = crate::pairs::put(alloc, placing, pairs, pair)?;
+    let pairs = pairs::put(alloc, placing, pairs, pair)?;
     replies(alloc, old.as_slice(), kind.of(pairs))
 }
 
-/// `put N K V`
+/// `put N K V`: a value under a key; the old one, or `nil`, is printed.
 pub fn put(alloc: Global, pair: &Pair, value: &Plain) -> Result<Answer, NoMemory>
     ensures { IfOk result (λ answer. answer ≡ spec.put pair.now value.now) }
 {

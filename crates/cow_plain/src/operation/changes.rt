@@ -13,7 +13,7 @@ use cow_model::{Literal, NoMemory, Pair, Plain};
 use sqlite_items::Items;
 use std::alloc::Global;
 
-/// `slice M I J`
+/// `slice M I J`: the elements `i` to `j - 1` of an array, with their indices.
 pub fn slice(alloc: Global, i: i64, j: i64, value: &Plain) -> Result<Answer, NoMemory>
     ensures { IfOk result (λ answer. answer ≡ spec.slice i j value.now) }
 {
@@ -65,7 +65,7 @@ fn set_in_slice(
     }
 }
 
-/// `set N I A`
+/// `set N I A`: the element at an index becomes another.
 pub fn set(alloc: Global, i: i64, atom: &Literal, value: &Plain) -> Result<Answer, NoMemory>
     ensures { IfOk result (λ answer. answer ≡ spec.set i atom.now value.now) }
 {
@@ -110,7 +110,7 @@ fn swapped_pairs(alloc: Global, i: i64, j: i64, pairs: &[Pair]) -> Result<Answer
     silent(alloc, Plain::ODict(pairs))
 }
 
-/// `swap N I J`
+/// `swap N I J`: two elements, or two pairs, change places.
 pub fn swap(alloc: Global, i: i64, j: i64, value: &Plain) -> Result<Answer, NoMemory>
     ensures { IfOk result (λ answer. answer ≡ spec.swap i j value.now) }
 {
@@ -122,7 +122,7 @@ pub fn swap(alloc: Global, i: i64, j: i64, value: &Plain) -> Result<Answer, NoMe
     }
 }
 
-/// `reverse N`
+/// `reverse N`: the last element, or pair, comes first.
 pub fn reversed(alloc: Global, value: &Plain) -> Result<Answer, NoMemory>
     ensures { IfOk result (λ answer. answer ≡ spec.reversed value.now) }
 {
@@ -143,7 +143,7 @@ pub fn reversed(alloc: Global, value: &Plain) -> Result<Answer, NoMemory>
     }
 }
 
-/// `rotate N C`
+/// `rotate N C`: the first `c` elements go to the end.
 pub fn rotate(alloc: Global, c: i64, value: &Plain) -> Result<Answer, NoMemory>
     ensures { IfOk result (λ answer. answer ≡ spec.rotate c value.now) }
 {
@@ -160,7 +160,7 @@ pub fn rotate(alloc: Global, c: i64, value: &Plain) -> Result<Answer, NoMemory>
     }
 }
 
-/// `splice N I J A*`
+/// `splice N I J A*`: atoms in the place of the elements `i` to `j - 1`.
 pub fn splice(
     alloc: Global,
     i: i64,
@@ -192,7 +192,7 @@ fn reserved(alloc: Global, kind: Listed, c: i64, items: &[Literal]) -> Result<An
     }
 }
 
-/// `reserve N C`
+/// `reserve N C`: the value as it is.
 pub fn reserve(alloc: Global, c: i64, value: &Plain) -> Result<Answer, NoMemory>
     ensures { IfOk result (λ answer. answer ≡ spec.reserve c value.now) }
 {
@@ -203,7 +203,7 @@ pub fn reserve(alloc: Global, c: i64, value: &Plain) -> Result<Answer, NoMemory>
     }
 }
 
-/// `clear N`
+/// `clear N`: no elements are left.
 pub fn clear(alloc: Global, value: &Plain) -> Result<Answer, NoMemory>
     ensures { IfOk result (λ answer. answer ≡ spec.clear value.now) }
 {
@@ -213,7 +213,7 @@ pub fn clear(alloc: Global, value: &Plain) -> Result<Answer, NoMemory>
     }
 }
 
-/// `rebase N`
+/// `rebase N`: a slice as an array.
 pub fn rebase(alloc: Global, value: &Plain) -> Result<Answer, NoMemory>
     ensures { IfOk result (λ answer. answer ≡ spec.rebase value.now) }
 {

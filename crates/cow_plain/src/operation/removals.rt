@@ -81,7 +81,7 @@ fn removed_key(
     }
 }
 
-/// `remove N X`
+/// `remove N X`: the element at a position, a member, or the pair of a key goes and is printed.
 pub fn remove(alloc: Global, x: &Literal, value: &Plain) -> Result<Answer, NoMemory>
     ensures { IfOk result (λ answer. answer ≡ spec.remove x.now value.now) }
 {
@@ -112,7 +112,7 @@ fn removed_pair(alloc: Global, i: i64, pairs: &[Pair]) -> Result<Answer, NoMemor
     }
 }
 
-/// `removeat N I`
+/// `removeat N I`: the element or pair at a place goes and is printed.
 pub fn remove_at(alloc: Global, i: i64, value: &Plain) -> Result<Answer, NoMemory>
     ensures { IfOk result (λ answer. answer ≡ spec.remove_at i value.now) }
 {
@@ -167,7 +167,7 @@ fn slice_popped(alloc: Global, start: u64, items: &[Literal]) -> Result<Answer, 
     }
 }
 
-/// `pop N END`
+/// `pop N END`: the element at an end goes, where there is one; it, or `nil`, is printed.
 pub fn pop(alloc: Global, side: Side, value: &Plain) -> Result<Answer, NoMemory>
     ensures { IfOk result (λ answer. answer ≡ spec.pop side value.now) }
 {
@@ -203,7 +203,7 @@ fn replaced(
     replies(alloc, old.as_slice(), Plain::Heap(items))
 }
 
-/// `replace N END A`
+/// `replace N END A`: the least or greatest element of a heap becomes another; the old one is printed.
 pub fn replace(alloc: Global, side: Side, atom: &Literal, value: &Plain) -> Result<Answer, NoMemory>
     ensures { IfOk result (λ answer. answer ≡ spec.replace side atom.now value.now) }
 {

@@ -12,7 +12,7 @@ use cow_model::{Literal, NoMemory, Plain};
 use sqlite_items::Items;
 use std::alloc::Global;
 
-/// `extend N M`
+/// `extend N M`: the other array's elements at the end.
 pub fn extend(alloc: Global, value: &Plain, other: &Plain) -> Result<Answer, NoMemory>
     ensures { IfOk result (λ answer. answer ≡ spec.extend value.now other.now) }
 {
@@ -81,35 +81,36 @@ fn on_sets(
     }
 }
 
-/// `union N M`
+/// `union N M`: the members of either.
 pub fn union(alloc: Global, value: &Plain, other: &Plain) -> Result<Answer, NoMemory>
     ensures { IfOk result (λ answer. answer ≡ spec.union value.now other.now) }
 {
     on_sets(alloc, Combining::Union, value, other)
 }
 
-/// `inter N M`
+/// `inter N M`: the members of both.
 pub fn inter(alloc: Global, value: &Plain, other: &Plain) -> Result<Answer, NoMemory>
     ensures { IfOk result (λ answer. answer ≡ spec.inter value.now other.now) }
 {
     on_sets(alloc, Combining::Inter, value, other)
 }
 
-/// `minus N M`
+/// `minus N M`: the members that the other hasn't.
 pub fn minus(alloc: Global, value: &Plain, other: &Plain) -> Result<Answer, NoMemory>
     ensures { IfOk result (λ answer. answer ≡ spec.minus value.now other.now) }
 {
     on_sets(alloc, Combining::Minus, value, other)
 }
 
-/// `symdiff N M`
+/// `symdiff N M`: the members of exactly one.
 pub fn symdiff(alloc: Global, value: &Plain, other: &Plain) -> Result<Answer, NoMemory>
     ensures { IfOk result (λ answer. answer ≡ spec.symdiff value.now other.now) }
 {
     on_sets(alloc, Combining::SymDiff, value, other)
 }
 
-/// `merge N M keep`, and `merge N M take`
+/// `merge N M keep`, and `merge N M take`: the keys of both, with the value that the last word says under
+/// a key of both.
 pub fn merge(alloc: Global, take: bool, value: &Plain, other: &Plain) -> Result<Answer, NoMemory>
     ensures { IfOk result (λ answer. answer ≡ spec.merge take value.now other.now) }
 {
@@ -128,7 +129,7 @@ pub fn merge(alloc: Global, take: bool, value: &Plain, other: &Plain) -> Result<
     }
 }
 
-/// `within N M`
+/// `within N M`: the pairs whose keys are members of a set.
 pub fn within(alloc: Global, value: &Plain, other: &Plain) -> Result<Answer, NoMemory>
     ensures { IfOk result (λ answer. answer ≡ spec.within value.now other.now) }
 {
