@@ -604,25 +604,6 @@ const TOO_MANY: Rows = &[
     ("fork\ntask\ngive a as b c", "line 3: bad word"),
 ];
 
-/// All rows that are told by a line.
-const GROUPS: &[Rows] = &[
-    BYTES,
-    COMMENTS,
-    FIRST_WORDS,
-    INTEGERS,
-    TEXTS,
-    NAMES,
-    LETS,
-    INSERTS,
-    TASKS,
-    FORKS,
-    PAIRS,
-    MEETINGS,
-    FIRST_LINES,
-    TOO_FEW,
-    TOO_MANY,
-];
-
 /// A line of each statement, with what is read: the line's number, the statement, its parts. The bytes
 /// of a text stand between `<` and `>`.
 const STATEMENTS: Rows = &[
@@ -1213,29 +1194,32 @@ fn add_with_word(alloc: Global, text: &mut String, statement: &Statement) -> Res
     Ok(true)
 }
 
-/// A statement of a name, integers and one atom, or of two atoms.
+/// A statement of a name, a position and an atom.
 fn add_placed(alloc: Global, text: &mut String, statement: &Statement) -> Result<bool, Fail> {
-    match statement {
+    let (line, word, name, i, atom) = match statement {
         Statement::InsertAt {
             line,
             name,
             i,
             atom,
-        } => {
-            add_head(alloc, text, *line, "InsertAt", name)?;
-            add_integer(alloc, text, *i)?;
-            add_atom(alloc, text, atom)?;
-        }
+        } => (*line, "InsertAt", name, *i, atom),
         Statement::Set {
             line,
             name,
             i,
             atom,
-        } => {
-            add_head(alloc, text, *line, "Set", name)?;
-            add_integer(alloc, text, *i)?;
-            add_atom(alloc, text, atom)?;
-        }
+        } => (*line, "Set", name, *i, atom),
+        _ => return Ok(false),
+    };
+    add_head(alloc, text, line, word, name)?;
+    add_integer(alloc, text, i)?;
+    add_atom(alloc, text, atom)?;
+    Ok(true)
+}
+
+/// A statement of a name and two positions, or two atoms.
+fn add_double(alloc: Global, text: &mut String, statement: &Statement) -> Result<bool, Fail> {
+    match statement {
         Statement::Swap { line, name, i, j } => {
             add_head(alloc, text, *line, "Swap", name)?;
             add_integer(alloc, text, *i)?;
@@ -1256,7 +1240,7 @@ fn add_placed(alloc: Global, text: &mut String, statement: &Statement) -> Result
     Ok(true)
 }
 
-/// A statement of another name and more, or of many atoms.
+/// A statement of another name and more.
 fn add_long(alloc: Global, text: &mut String, statement: &Statement) -> Result<bool, Fail> {
     match statement {
         Statement::Slice {
@@ -1281,7 +1265,7 @@ fn add_long(alloc: Global, text: &mut String, statement: &Statement) -> Result<b
             add_name(text, other)?;
             add_word(text, if *take { "take" } else { "keep" })?;
         }
-        _ => return add_listed(alloc, text, statement),
+        _ => return Ok(false),
     }
     Ok(true)
 }
@@ -1398,41 +1382,108 @@ fn shown(alloc: Global, script: &[u8]) -> Result<String, Fail> {
     Ok(text)
 }
 
-#[test]
-fn each_line_is_read_or_named_with_its_fault(rt: HostRuntime) -> Result<(), Fail> {
-    let alloc = rt.alloc();
-    for rows in GROUPS {
-        for (script, expected) in *rows {
-            let found = told(alloc, script.as_bytes())?;
-            assert_eq!(rt; found.as_str(), *expected, "{script:?}");
-        }
+/// Appends a line on a row that gives something else.
+fn add_unlike(
+    alloc: Global,
+    text: &mut String,
+    row: &str,
+    found: &str,
+    expected: &str,
+) -> Result<(), Fail> {
+    if found != expected {
+        let line = format!(in alloc; "{row:?} gives {found}, not {expected}\n")?;
+        text.push_str(line.as_str())?;
     }
-    let lone = told(alloc, b"# \x80")?;
-    assert_eq!(rt; lone.as_str(), "line 1: bad word");
+    Ok(())
+}
+
+/// The rows of which something else is said, a line each.
+fn told_otherwise(alloc: Global, rows: &[(&str, &str)]) -> Result<String, Fail> {
+    let mut text = String::new(alloc);
+    for (script, expected) in rows {
+        let found = told(alloc, script.as_bytes())?;
+        add_unlike(alloc, &mut text, *script, found.as_str(), *expected)?;
+    }
+    Ok(text)
+}
+
+/// The rows that are read otherwise, a line each.
+fn shown_otherwise(alloc: Global, rows: &[(&str, &str)]) -> Result<String, Fail> {
+    let mut text = String::new(alloc);
+    for (script, expected) in rows {
+        let found = shown(alloc, script.as_bytes())?;
+        add_unlike(alloc, &mut text, *script, found.as_str(), *expected)?;
+    }
+    Ok(text)
+}
+
+/// The rows of pieces of which something else is said, a line each.
+fn limited_otherwise(alloc: Global, rows: &[(Pieces, &str)]) -> Result<String, Fail> {
+    let mut text = String::new(alloc);
+    for (pieces, expected) in rows {
+        let script = joined(alloc, *pieces)?;
+        let found = told(alloc, script.as_slice())?;
+        let row = format!(in alloc; "{pieces:?}")?;
+        add_unlike(alloc, &mut text, row.as_str(), found.as_str(), *expected)?;
+    }
+    Ok(text)
+}
+
+#[test]
+fn bytes_and_first_words(rt: HostRuntime) -> Result<(), Fail> {
+    let alloc = rt.alloc();
+    assert_eq!(rt; told_otherwise(alloc, BYTES)?.as_str(), "");
+    assert_eq!(rt; told_otherwise(alloc, COMMENTS)?.as_str(), "");
+    assert_eq!(rt; told_otherwise(alloc, FIRST_WORDS)?.as_str(), "");
+    let beyond = told(alloc, b"# \x80")?;
+    assert_eq!(rt; beyond.as_str(), "line 1: bad word");
     Ok(())
 }
 
 #[test]
-fn each_statement_is_read_with_its_parts(rt: HostRuntime) -> Result<(), Fail> {
+fn atoms_and_names(rt: HostRuntime) -> Result<(), Fail> {
     let alloc = rt.alloc();
-    for rows in [STATEMENTS, READINGS] {
-        for (script, expected) in rows {
-            let found = shown(alloc, script.as_bytes())?;
-            assert_eq!(rt; found.as_str(), *expected, "{script:?}");
-        }
-    }
+    assert_eq!(rt; told_otherwise(alloc, INTEGERS)?.as_str(), "");
+    assert_eq!(rt; told_otherwise(alloc, TEXTS)?.as_str(), "");
+    assert_eq!(rt; told_otherwise(alloc, NAMES)?.as_str(), "");
+    assert_eq!(rt; told_otherwise(alloc, PAIRS)?.as_str(), "");
+    Ok(())
+}
+
+#[test]
+fn forms_and_forks(rt: HostRuntime) -> Result<(), Fail> {
+    let alloc = rt.alloc();
+    assert_eq!(rt; told_otherwise(alloc, LETS)?.as_str(), "");
+    assert_eq!(rt; told_otherwise(alloc, INSERTS)?.as_str(), "");
+    assert_eq!(rt; told_otherwise(alloc, TASKS)?.as_str(), "");
+    assert_eq!(rt; told_otherwise(alloc, FORKS)?.as_str(), "");
+    Ok(())
+}
+
+#[test]
+fn the_earlier_test_and_line_name_the_fault(rt: HostRuntime) -> Result<(), Fail> {
+    let alloc = rt.alloc();
+    assert_eq!(rt; told_otherwise(alloc, MEETINGS)?.as_str(), "");
+    assert_eq!(rt; told_otherwise(alloc, FIRST_LINES)?.as_str(), "");
+    Ok(())
+}
+
+#[test]
+fn each_statement_has_its_tokens_and_parts(rt: HostRuntime) -> Result<(), Fail> {
+    let alloc = rt.alloc();
+    assert_eq!(rt; told_otherwise(alloc, TOO_FEW)?.as_str(), "");
+    assert_eq!(rt; told_otherwise(alloc, TOO_MANY)?.as_str(), "");
+    assert_eq!(rt; shown_otherwise(alloc, STATEMENTS)?.as_str(), "");
+    assert_eq!(rt; shown_otherwise(alloc, READINGS)?.as_str(), "");
     Ok(())
 }
 
 #[test]
 fn limits_are_named_with_their_numbers(rt: HostRuntime) -> Result<(), Fail> {
     let alloc = rt.alloc();
-    for rows in [LONG_TEXTS, MISPLACED_TEXTS, MANY_ATOMS, MANY_TASKS] {
-        for (pieces, expected) in rows {
-            let script = joined(alloc, *pieces)?;
-            let found = told(alloc, script.as_slice())?;
-            assert_eq!(rt; found.as_str(), *expected, "{pieces:?}");
-        }
-    }
+    assert_eq!(rt; limited_otherwise(alloc, LONG_TEXTS)?.as_str(), "");
+    assert_eq!(rt; limited_otherwise(alloc, MISPLACED_TEXTS)?.as_str(), "");
+    assert_eq!(rt; limited_otherwise(alloc, MANY_ATOMS)?.as_str(), "");
+    assert_eq!(rt; limited_otherwise(alloc, MANY_TASKS)?.as_str(), "");
     Ok(())
 }
