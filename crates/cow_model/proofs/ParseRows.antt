@@ -1,16 +1,16 @@
 -- Worked rows: what the definitions say of small scripts, computed by the check itself.
-use Rattle.std.proofs.Common.{◌≡◌, ℕ, pos, ◌∷◌, List, []}
-use Rattle.std.specs.Prelude.{refl, codes, true, false, Some, None, Result, Ok, Err}
-use Rattle.cow_model.specs.declared.fault.ParseFault.TheVariants.{BadWord, BadAtom, BadName, ForkShape, Limit}
+use Rattle.std.proofs.Common.{◌≡◌, pos, ◌∷◌, []}
+use Rattle.std.specs.Prelude.{refl, codes, true, false, Ok, Err}
+use Rattle.cow_model.specs.declared.fault.ParseFault.TheVariants.{BadAtom, BadName, ForkShape}
 use Rattle.cow_model.specs.declared.plain.Literal.TheVariants.{Int, Text}
 use Rattle.cow_model.specs.declared.statement.Kind.TheVariants.{Array}
 use Rattle.cow_model.specs.declared.statement.Statement.TheVariants.{Let, Show, Append, Give, Fork}
 use Rattle.cow_model.specs.Lexis.{lines_of, tokens_of}
 use Rattle.cow_model.specs.Name.{is_reserved}
 use Rattle.cow_model.specs.Atom.{atom_of}
-use Rattle.cow_model.specs.Words.{word_of, kind_of, side_of, verb_of, group_of, preference_of}
-use Rattle.cow_model.specs.Readers.{due_name, due_atom, due_integer, due_word, due_token, no_more, atoms_from, captures_from}
-use Rattle.cow_model.specs.Forms.{lone_name, name_atom, name_place, name_place_atom, name_side, two_names, name_side_atom, name_places, name_atoms, splice, merge, lazy, give, insert, in_pairs, made, sliced, assigned, value_of, assignment, statement_of}
+use Rattle.cow_model.specs.Words.{word_of, kind_of, group_of}
+use Rattle.cow_model.specs.Readers.{due_name, due_atom, due_token, no_more, atoms_from, captures_from}
+use Rattle.cow_model.specs.Forms.{lone_name, name_atom, give, made, value_of, assignment, statement_of}
 use Rattle.cow_model.specs.Parse.{stands, counted, stated, forked, tasked, ended, read_on, told, remark, with_tokens, with_line, script_of}
 
 tokens_in_quotes : tokens_of (codes " a \"b c\"d e\\\" \"\\\" f\" g") ≡ codes "a" ∷ codes "\"b c\"d" ∷ codes "e\\\"" ∷ codes "\"\\\" f\"" ∷ codes "g" ∷ []
@@ -34,11 +34,11 @@ unfolding lines_of tokens_of word_of stands counted read_on told with_tokens wit
 end_without_fork = refl
 
 fork_without_end : script_of (codes "let a = array 1\nfork") ≡ Err (ForkShape 2)
-unfolding lines_of tokens_of is_reserved atom_of word_of kind_of due_name due_token no_more atoms_from in_pairs made value_of assignment statement_of stands counted stated forked read_on told with_tokens with_line script_of
+unfolding lines_of tokens_of is_reserved atom_of word_of kind_of due_name due_token no_more atoms_from made value_of assignment statement_of stands counted stated forked read_on told with_tokens with_line script_of
 fork_without_end = refl
 
 a_text_with_escapes : script_of (codes "#cow 1\nlet a = array \"x\\\"y\"\nshow a\n") ≡ Ok (Let 2 (codes "a") Array (Text (codes "x\"y") ∷ []) ∷ Show 3 (codes "a") ∷ [])
-unfolding lines_of tokens_of is_reserved atom_of word_of kind_of due_name due_token no_more atoms_from lone_name in_pairs made value_of assignment statement_of stands counted stated forked read_on told remark with_tokens with_line script_of
+unfolding lines_of tokens_of is_reserved atom_of word_of kind_of due_name due_token no_more atoms_from lone_name made value_of assignment statement_of stands counted stated forked read_on told remark with_tokens with_line script_of
 a_text_with_escapes = refl
 
 two_tasks : script_of (codes "fork\ntask copy a take b\nappend a 1\ngive a as c\nend\ntask\nend\nend") ≡ Ok (Fork 1 (

@@ -2,7 +2,7 @@
 use Rattle.std.specs.Prelude.{ℕ, ℤ, ◌%◌, Bool, true, false, ◌&&◌, not, nat_le, List, [], ◌∷◌, length, codes, ◌==◌, Option, Some, None, Result, Ok, Err, if◌then◌else◌}
 use Rattle.std.specs.Str.{bytes_eq}
 use Rattle.cow_model.specs.declared.fault.Flaw.{Flaw}
-use Rattle.cow_model.specs.declared.fault.Flaw.TheVariants.{BadWord, BadAtom, BadName}
+use Rattle.cow_model.specs.declared.fault.Flaw.TheVariants.{BadWord, BadAtom}
 use Rattle.cow_model.specs.declared.plain.Literal.{Literal}
 use Rattle.cow_model.specs.declared.statement.Kind.{Kind}
 use Rattle.cow_model.specs.declared.statement.Kind.TheVariants as kind
@@ -22,9 +22,8 @@ use Rattle.cow_model.specs.declared.word.SideWord.TheVariants.{Pop, Peek}
 use Rattle.cow_model.specs.declared.word.OtherWord.{OtherWord}
 use Rattle.cow_model.specs.declared.word.OtherWord.TheVariants.{Extend, Union, Inter, Minus, SymDiff, Subset, Disjoint, Equal, Within}
 use Rattle.cow_model.specs.Lexis.{Text}
-use Rattle.cow_model.specs.Name.{is_name}
 use Rattle.cow_model.specs.Words.{kind_of, side_of, verb_of, preference_of}
-use Rattle.cow_model.specs.Readers.{Reader, and_then, ◌>>=◌, ◌>>◌, pure, due_name, due_atom, due_integer, due_word, due_token, no_more, all_atoms}
+use Rattle.cow_model.specs.Readers.{Reader, ◌>>=◌, ◌>>◌, pure, due_name, due_atom, due_integer, due_word, due_token, no_more, all_atoms, checked, name_of}
 
 -- ---- words by what stands behind them
 
@@ -97,13 +96,13 @@ name_place = do
   pure (n, i)
 
 -- `N I A`
-unfoldable pub name_place_atom : Reader (Text × (ℤ × Literal))
+unfoldable pub name_place_atom : Reader (Text × ℤ × Literal)
 name_place_atom = do
   n ← due_name
   i ← due_integer
   a ← due_atom
   no_more
-  pure (n, (i, a))
+  pure (n, i, a)
 
 -- `N END`
 unfoldable pub name_side : Reader (Text × Side)
@@ -122,31 +121,31 @@ two_names = do
   pure (n, m)
 
 -- `N END A`
-unfoldable pub name_side_atom : Reader (Text × (Side × Literal))
+unfoldable pub name_side_atom : Reader (Text × Side × Literal)
 name_side_atom = do
   n ← due_name
   side ← due_word side_of
   a ← due_atom
   no_more
-  pure (n, (side, a))
+  pure (n, side, a)
 
 -- `N I J`
-unfoldable pub name_places : Reader (Text × (ℤ × ℤ))
+unfoldable pub name_places : Reader (Text × ℤ × ℤ)
 name_places = do
   n ← due_name
   i ← due_integer
   j ← due_integer
   no_more
-  pure (n, (i, j))
+  pure (n, i, j)
 
 -- `N K V`
-unfoldable pub name_atoms : Reader (Text × (Literal × Literal))
+unfoldable pub name_atoms : Reader (Text × Literal × Literal)
 name_atoms = do
   n ← due_name
   k ← due_atom
   v ← due_atom
   no_more
-  pure (n, (k, v))
+  pure (n, k, v)
 
 -- ---- statements with a form of their own
 
@@ -186,11 +185,21 @@ give line = do
   no_more
   pure (statement.Give line y z)
 
+-- `insert N A`
+unfoldable pub insert_atom : ℕ → Reader Statement
+insert_atom line = do
+  x ← name_atom
+  pure (statement.Insert line x.0 x.1)
+
+-- `insert N I A`
+unfoldable pub insert_at : ℕ → Reader Statement
+insert_at line = do
+  x ← name_place_atom
+  pure (statement.InsertAt line x.0 x.1 x.2)
+
 -- `insert N A`, and with more tokens `insert N I A`
 unfoldable pub insert : ℕ → Reader Statement
-insert line tokens =
-    if nat_le 3 (length tokens) then (name_place_atom >>= (λ x. pure (statement.InsertAt line x.0 x.1.0 x.1.1))) tokens
-    else (name_atom >>= (λ x. pure (statement.Insert line x.0 x.1))) tokens
+insert line tokens = if nat_le 3 (length tokens) then insert_at line tokens else insert_atom line tokens
 
 -- ---- `let`
 
@@ -202,21 +211,21 @@ is_paired kind.TDict = true
 is_paired _ = false
 
 -- pairs are an even number of atoms
-unfoldable pub in_pairs : Kind → List Literal → Reader (Unit {0})
-in_pairs k atoms tokens = if is_paired k && not (length atoms % 2 == 0) then Err BadAtom else Ok (tt, tokens)
+abbrev pub in_pairs : Kind → List Literal → Result (Unit {0}) Flaw
+in_pairs k atoms = if is_paired k && not (length atoms % 2 == 0) then Err BadAtom else Ok tt
 
 -- `A*` behind `let N = KIND`
 unfoldable pub made : ℕ → Text → Kind → Reader Statement
 made line n k = do
   atoms ← all_atoms
-  in_pairs k atoms
+  checked (in_pairs k atoms)
   pure (statement.Let line n k atoms)
 
 -- `M I J` behind `let N = slice`
 unfoldable pub sliced : ℕ → Text → Reader Statement
 sliced line n = do
   x ← name_places
-  pure (statement.Slice line n x.0 x.1.0 x.1.1)
+  pure (statement.Slice line n x.0 x.1 x.2)
 
 -- nothing more behind `let N = M`
 unfoldable pub assigned : ℕ → Text → Text → Reader Statement
@@ -224,13 +233,18 @@ assigned line n m = do
   no_more
   pure (statement.Assign line n m)
 
--- what stands behind `let N =`, by its first token, which may be a kind
+-- whether a token is the word `slice`
+abbrev pub is_slice : Text → Bool
+is_slice token = bytes_eq token (codes "slice")
+
+-- what stands behind `let N =`, where the first token of it is no kind
+unfoldable pub no_kind : ℕ → Text → Text → Reader Statement
+no_kind line n token = if is_slice token then sliced line n else (checked (name_of token) >>= (λ m. assigned line n m))
+
+-- what stands behind `let N =`, by the kind that its first token may be
 abbrev pub value_by : ℕ → Text → Text → Option Kind → Reader Statement
 value_by line n token (Some k) = made line n k
-value_by line n token None =
-    if bytes_eq token (codes "slice") then sliced line n
-    else if is_name token then assigned line n token
-    else λ tokens. Err BadName
+value_by line n token None = no_kind line n token
 
 -- what stands behind `let N =`
 unfoldable pub value_of : ℕ → Text → Reader Statement
@@ -255,11 +269,11 @@ statement_of line (OnPlace word) = name_place >>= (λ x. pure (on_place line wor
 statement_of line (OnSide word) = name_side >>= (λ x. pure (on_side line word x.0 x.1))
 statement_of line (OnOther word) = two_names >>= (λ x. pure (on_other line word x.0 x.1))
 statement_of line Insert = insert line
-statement_of line Set = name_place_atom >>= (λ x. pure (statement.Set line x.0 x.1.0 x.1.1))
-statement_of line Replace = name_side_atom >>= (λ x. pure (statement.Replace line x.0 x.1.0 x.1.1))
-statement_of line Swap = name_places >>= (λ x. pure (statement.Swap line x.0 x.1.0 x.1.1))
+statement_of line Set = name_place_atom >>= (λ x. pure (statement.Set line x.0 x.1 x.2))
+statement_of line Replace = name_side_atom >>= (λ x. pure (statement.Replace line x.0 x.1 x.2))
+statement_of line Swap = name_places >>= (λ x. pure (statement.Swap line x.0 x.1 x.2))
 statement_of line Splice = splice line
-statement_of line Put = name_atoms >>= (λ x. pure (statement.Put line x.0 x.1.0 x.1.1))
+statement_of line Put = name_atoms >>= (λ x. pure (statement.Put line x.0 x.1 x.2))
 statement_of line Merge = merge line
 statement_of line Lazy = lazy line
 statement_of line Give = give line

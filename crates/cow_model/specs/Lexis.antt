@@ -22,9 +22,13 @@ lines_of bytes = without_empty_end (slice_split (λ b. b == 10) bytes)
 unfoldable pub words_of : Text → List Text
 words_of line = filter (λ word. not (length word == 0)) (slice_split (λ b. b == 32) line)
 
+-- whether a script may have this byte in a line
+abbrev pub is_printable_byte : ℕ → Bool
+is_printable_byte b = nat_le 32 b && nat_le b 126
+
 -- whether a line has only the bytes that a script may have
 abbrev pub is_printable : Text → Bool
-is_printable line = list_all (λ b. nat_le 32 b && nat_le b 126) line
+is_printable line = list_all is_printable_byte line
 
 -- whether a byte is a space between tokens
 abbrev pub is_cut : Quoting → ℕ → Bool

@@ -1,11 +1,10 @@
 -- What the bytes of a script say: its statements, or the fault of its first faulty line.
-use Rattle.std.specs.Prelude.{ℕ, ◌+◌, Bool, true, false, ◌&&◌, not, nat_lt, List, [], ◌∷◌, ◌++◌, length, codes, ◌==◌, Option, Some, None, Result, Ok, Err, if◌then◌else◌}
+use Rattle.std.specs.Prelude.{ℕ, ◌+◌, Bool, true, false, not, nat_lt, List, [], ◌∷◌, ◌++◌, length, codes, ◌==◌, Result, Ok, Err, if◌then◌else◌}
 use Rattle.std.specs.Str.{bytes_eq}
 use Rattle.cow_model.specs.declared.fault.Flaw.{Flaw}
 use Rattle.cow_model.specs.declared.fault.Flaw.TheVariants as flaw
 use Rattle.cow_model.specs.declared.fault.ParseFault.{ParseFault}
 use Rattle.cow_model.specs.declared.fault.ParseFault.TheVariants as fault
-use Rattle.cow_model.specs.declared.reading.Due.TheVariants.{Group}
 use Rattle.cow_model.specs.declared.reading.Reading.{Reading}
 use Rattle.cow_model.specs.declared.reading.Standing.{Standing}
 use Rattle.cow_model.specs.declared.reading.Standing.TheVariants.{Outside, InFork, InTask}
@@ -19,7 +18,7 @@ use Rattle.cow_model.specs.declared.word.Word.{Word}
 use Rattle.cow_model.specs.declared.word.Word.TheVariants as word
 use Rattle.cow_model.specs.Lexis.{Text, lines_of, is_printable, tokens_of}
 use Rattle.cow_model.specs.Words.{word_of}
-use Rattle.cow_model.specs.Readers.{Reader, and_then, ◌>>=◌, ◌>>◌, due_token, no_more, all_captures, or_flaw}
+use Rattle.cow_model.specs.Readers.{and_then, ◌>>◌, due_token, no_more, all_captures, or_flaw}
 use Rattle.cow_model.specs.Forms.{statement_of}
 
 -- ---- where a line may stand
@@ -58,15 +57,16 @@ stands first at = if may_stand first at then Ok tt else Err flaw.ForkShape
 
 -- ---- how many there may be
 
--- one more than n isn't over the bound
-abbrev pub one_more : ℕ → ℕ → Result (Unit {0}) Flaw
-one_more n bound = if nat_lt n bound then Ok tt else Err (flaw.Limit (n + 1) bound)
+-- one more than n; the first number over the bound is one more than that
+abbrev pub one_more : ℕ → ℕ → Result ℕ Flaw
+one_more n bound = if nat_lt n bound then Ok (n + 1) else Err (flaw.Limit (bound + 1) bound)
 
--- a fork has 16 tasks at most, and a task 64 statements `give`
-unfoldable pub counted : Word → Standing → Result (Unit {0}) Flaw
+-- how many tasks of the fork, or statements `give` of the task, there are with this line: at most 16 and 64
+unfoldable pub counted : Word → Standing → Result ℕ Flaw
 counted word.Task (InFork fork tasks) = one_more (length tasks) 16
 counted (word.Statement form.Give) (InTask fork tasks task gives) = one_more gives 64
-counted _ _ = Ok tt
+counted _ (InTask fork tasks task gives) = Ok gives
+counted _ _ = Ok 0
 
 -- ---- what a line adds
 
@@ -74,23 +74,18 @@ counted _ _ = Ok tt
 abbrev pub with_statement : TaskBlock → Statement → TaskBlock
 with_statement task s = record task { statements = task.statements ++ s ∷ [] }
 
--- how many statements `give` that statement is
-abbrev pub given : Form → ℕ
-given form.Give = 1
-given _ = 0
-
 -- the statements outside of forks, and what is open
 abbrev pub reading : List Statement → Standing → Reading
 reading statements at = record { statements = statements; standing = at }
 
--- a statement stands in the open task, or else in the script itself
-abbrev pub stated_at : Form → Statement → List Statement → Standing → Reading
-stated_at f s statements (InTask fork tasks task gives) = reading statements (InTask fork tasks (with_statement task s) (gives + given f))
-stated_at f s statements at = reading (statements ++ s ∷ []) at
+-- a statement stands in the open task, which then has so many statements `give`, or else in the script itself
+abbrev pub stated_at : ℕ → Statement → List Statement → Standing → Reading
+stated_at count s statements (InTask fork tasks task gives) = reading statements (InTask fork tasks (with_statement task s) count)
+stated_at count s statements at = reading (statements ++ s ∷ []) at
 
 -- a line that is a statement
-unfoldable pub stated : Form → Statement → Reading → Reading
-stated f s r = stated_at f s r.statements r.standing
+unfoldable pub stated : ℕ → Statement → Reading → Reading
+stated count s r = stated_at count s r.statements r.standing
 
 -- a line `fork`
 unfoldable pub forked : ℕ → Reading → Reading
@@ -118,23 +113,27 @@ ended r = ended_at r.statements r.standing
 -- ---- one line
 
 -- what the tokens behind the first word add
-unfoldable pub read_on : ℕ → Word → Reading → List Text → Result Reading Flaw
-read_on line (word.Statement form) r tokens = and_then (statement_of line form tokens) (λ x. Ok (stated form x.0 r))
-read_on line word.Fork r tokens = and_then (no_more tokens) (λ x. Ok (forked line r))
-read_on line word.Task r tokens = and_then (all_captures tokens) (λ x. Ok (tasked line x.0 r))
-read_on line word.End r tokens = and_then (no_more tokens) (λ x. Ok (ended r))
+unfoldable pub read_on : ℕ → Word → ℕ → Reading → List Text → Result Reading Flaw
+read_on line (word.Statement form) count r tokens = and_then (statement_of line form tokens) (λ x. Ok (stated count x.0 r))
+read_on line word.Fork count r tokens = and_then (no_more tokens) (λ x. Ok (forked line r))
+read_on line word.Task count r tokens = and_then (all_captures tokens) (λ x. Ok (tasked line x.0 r))
+read_on line word.End count r tokens = and_then (no_more tokens) (λ x. Ok (ended r))
 
 -- a line that isn't skipped: its first word, where it stands, how many there are, and its other tokens
 unfoldable pub told : ℕ → Text → List Text → Reading → Result Reading Flaw
 told line first tokens r =
     and_then (or_flaw flaw.BadWord (word_of first)) (λ word.
     and_then (stands word r.standing) (λ _.
-    and_then (counted word r.standing) (λ _. read_on line word r tokens)))
+    and_then (counted word r.standing) (λ count. read_on line word count r tokens)))
+
+-- whether a token is `#cow`
+abbrev pub is_heading : Text → Bool
+is_heading token = bytes_eq token (codes "#cow")
 
 -- a line that begins with `#`: `#cow 1` as the first line, or a comment
 unfoldable pub remark : ℕ → Text → List Text → Result (Unit {0}) Flaw
 remark line first tokens =
-    if not (bytes_eq first (codes "#cow")) then Ok tt
+    if not (is_heading first) then Ok tt
     else if not (line == 1) then Err flaw.BadWord
     else and_then ((due_token (codes "1") >> no_more) tokens) (λ _. Ok tt)
 

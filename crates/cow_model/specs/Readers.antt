@@ -1,5 +1,5 @@
 -- Tokens, read from left to right: each reader takes what is due next, or says what is wrong there.
-use Rattle.std.specs.Prelude.{ℕ, ℤ, ◌+◌, Bool, true, false, nat_lt, List, [], ◌∷◌, ◌++◌, Option, Some, None, Result, Ok, Err, if◌then◌else◌}
+use Rattle.std.specs.Prelude.{ℕ, ℤ, ◌+◌, Bool, nat_lt, List, [], ◌∷◌, Option, Some, None, Result, Ok, Err, if◌then◌else◌}
 use Rattle.std.specs.Str.{bytes_eq}
 use Rattle.cow_model.specs.declared.fault.Flaw.{Flaw}
 use Rattle.cow_model.specs.declared.fault.Flaw.TheVariants.{BadWord, BadAtom, BadName, Limit}
@@ -7,12 +7,11 @@ use Rattle.cow_model.specs.declared.plain.Literal.{Literal}
 use Rattle.cow_model.specs.declared.reading.Due.{Due}
 use Rattle.cow_model.specs.declared.reading.Due.TheVariants.{Group, FirstName, NextName}
 use Rattle.cow_model.specs.declared.statement.Capture.{Capture}
-use Rattle.cow_model.specs.declared.statement.Side.{Side}
 use Rattle.cow_model.specs.Lexis.{Text}
 use Rattle.cow_model.specs.Integer.{integer_of}
 use Rattle.cow_model.specs.Name.{is_name}
 use Rattle.cow_model.specs.Atom.{atom_of}
-use Rattle.cow_model.specs.Words.{side_of, group_of}
+use Rattle.cow_model.specs.Words.{group_of}
 
 -- what is read of the tokens, and those behind it
 abbrev pub Reader : Type 0 → Type 0
@@ -36,6 +35,10 @@ reader >> next = reader >>= (λ _. next)
 -- reads nothing more
 abbrev pub pure : {A : Type 0} → A → Reader A
 pure x = λ tokens. Ok (x, tokens)
+
+-- goes on where there is no flaw
+abbrev pub checked : {A : Type 0} → Result A Flaw → Reader A
+checked test = λ tokens. and_then test (λ x. Ok (x, tokens))
 
 -- what is there, or else a flaw
 abbrev pub or_flaw : {A : Type 0} → Flaw → Option A → Result A Flaw
@@ -94,31 +97,40 @@ abbrev pub all_atoms : Reader (List Literal)
 all_atoms tokens = and_then (atoms_from 0 tokens) (λ atoms. Ok (atoms, []))
 
 -- a name of a group that moves, or doesn't
-abbrev pub captured : Bool → Text → Result (Due × List Capture) Flaw
-captured moves token = and_then (name_of token) (λ name. Ok (NextName moves, record { moves = moves; name = name } ∷ []))
+abbrev pub captured : Bool → Text → Result (Due × Option Capture) Flaw
+captured moves token = and_then (name_of token) (λ name. Ok (NextName moves, Some (record { moves = moves; name = name })))
 
--- a token where no name is due, and what it means as the word of a group
-abbrev pub group_due : Option Bool → Result (Due × List Capture) Flaw
+-- a token where no name is due, by what it means as the word of a group
+abbrev pub group_due : Option Bool → Result (Due × Option Capture) Flaw
 group_due None = Err BadWord
-group_due (Some moves) = Ok (FirstName moves, [])
+group_due (Some moves) = Ok (FirstName moves, None)
 
 -- a token behind a name of a group: the word of another group, or one more name
-abbrev pub next_due : Bool → Text → Option Bool → Result (Due × List Capture) Flaw
+abbrev pub next_due : Bool → Text → Option Bool → Result (Due × Option Capture) Flaw
 next_due moves token None = captured moves token
-next_due moves token (Some other) = Ok (FirstName other, [])
+next_due moves token (Some other) = Ok (FirstName other, None)
 
 -- a token behind `task`: what is due behind it, and what it captures
-abbrev pub capture_of : Due → Text → Result (Due × List Capture) Flaw
+abbrev pub capture_of : Due → Text → Result (Due × Option Capture) Flaw
 capture_of Group token = group_due (group_of token)
 capture_of (FirstName moves) token = captured moves token
 capture_of (NextName moves) token = next_due moves token (group_of token)
 
--- what the tokens behind `task` capture, where each group has one name at least
+-- nothing more stands behind `task`: each group has one name at least
+abbrev pub captures_end : Due → Result (Unit {0}) Flaw
+captures_end Group = Ok tt
+captures_end (FirstName moves) = Err BadWord
+captures_end (NextName moves) = Ok tt
+
+-- a capture, if there is one, before others
+abbrev pub with_capture : Option Capture → List Capture → List Capture
+with_capture None captures = captures
+with_capture (Some capture) captures = capture ∷ captures
+
+-- what the tokens behind `task` capture, where this is due first
 unfoldable pub captures_from : Due → List Text → Result (List Capture) Flaw
-captures_from Group [] = Ok []
-captures_from (FirstName moves) [] = Err BadWord
-captures_from (NextName moves) [] = Ok []
-captures_from due (token ∷ tokens) = and_then (capture_of due token) (λ x. and_then (captures_from x.0 tokens) (λ others. Ok (x.1 ++ others)))
+captures_from due [] = and_then (captures_end due) (λ _. Ok [])
+captures_from due (token ∷ tokens) = and_then (capture_of due token) (λ x. and_then (captures_from x.0 tokens) (λ others. Ok (with_capture x.1 others)))
 
 -- groups of names are due up to the end of the line
 abbrev pub all_captures : Reader (List Capture)

@@ -1,0 +1,48 @@
+-- What a text is once its first line is cut off.
+use Rattle.std.proofs.Common.{◌≡◌, ℕ, ◌+◌, ◌<◌, ◌≤◌, suc, Bool, true, false, not, cond, eqb, List, [], ◌∷◌, length, refl, ap, ◌∙◌, arith, inl, inr}
+use Rattle.std.specs.List.{slice_split, onto_first, position_or_len, before_first, after_first}
+use Rattle.std.proofs.lemmas.Bool.{cases_lt}
+use Rattle.std.proofs.lemmas.List.{take_all, drop_all}
+use Rattle.std.proofs.lemmas.List.Splits.{slice_split_first, length-slice_split}
+use Rattle.cow_model.specs.Lexis.{without_empty_end, lines_of}
+
+abbrev is_newline : ℕ → Bool
+is_newline b = eqb b 10
+
+-- one element more before parts that are one part
+one_part_more : (b : Bool) (x : ℕ) (xs : List ℕ) (parts : List (List ℕ)) (n : ℕ) → suc (length xs) ≤ cond (not b) (1 + n) 0 → (length xs ≤ n → parts ≡ xs ∷ []) → cond b ([] ∷ parts) (onto_first x parts) ≡ (x ∷ xs) ∷ []
+one_part_more true x xs parts n h is = absurd (omega arith)
+one_part_more false x xs parts n h is = ap (onto_first x) (is (omega arith))
+
+-- a text in which nothing passes is one part
+one_part : (p : ℕ → Bool) (xs : List ℕ) → length xs ≤ position_or_len p xs → slice_split p xs ≡ xs ∷ []
+one_part p [] h = refl
+one_part p (x ∷ xs) h = one_part_more (p x) x xs (slice_split p xs) (position_or_len p xs) h (one_part p xs)
+
+-- where nothing passes, the first part is the whole text, and nothing stands behind it
+no_cut : (p : ℕ → Bool) (xs : List ℕ) → length xs ≤ position_or_len p xs → (before_first p xs ≡ xs) × (after_first p xs ≡ [])
+no_cut p xs h = (take_all (position_or_len p xs) xs h, drop_all (position_or_len p xs + 1) xs (omega arith))
+
+-- a part before others is a line
+line_before : (part : List ℕ) (parts : List (List ℕ)) → 0 < length parts → without_empty_end (part ∷ parts) ≡ part ∷ without_empty_end parts
+line_before part [] h = absurd (omega arith)
+line_before [] (next ∷ parts) h = refl
+line_before (b ∷ bs) (next ∷ parts) h = refl
+
+-- a part that isn't empty is a line
+one_line : (text : List ℕ) → 0 < length text → without_empty_end (text ∷ []) ≡ text ∷ []
+one_line [] h = absurd (omega arith)
+one_line (b ∷ bs) h = refl
+
+-- a text that isn't empty is its first line and the lines behind its first newline
+pub lines_of_cut : (text : List ℕ) → 0 < length text → lines_of text ≡ before_first is_newline text ∷ lines_of (after_first is_newline text)
+unfolding lines_of
+lines_of_cut text some =
+    elim (cases_lt (position_or_len is_newline text) (length text)) [
+      | inl lt ↦
+          let rest : 0 < length (slice_split is_newline (after_first is_newline text)) = omega (arith, length-slice_split is_newline (after_first is_newline text)) in
+          ap without_empty_end (slice_split_first is_newline text 0 lt) ∙ line_before (before_first is_newline text) _ rest
+      | inr none ↦
+          let whole = no_cut is_newline text none in
+          rw (whole.0, whole.1) (ap without_empty_end (one_part is_newline text none) ∙ one_line text some)
+    ]

@@ -1,0 +1,11 @@
+use Rattle.std.proofs.Common.{◌≤◌, ◌+◌, length}
+use Rattle.cow_model.specs.Parse.{script_of}
+use Rattle.cow_script.proofs.LinesRead.{ReadSoFar}
+use Rattle.cow_script.proofs.script.parse.Given as goal
+
+-- what was read so far, and that there are no more lines than bytes
+abbrev pub invariant-loop-text : goal.invariant-loop-text
+invariant-loop-text l = ReadSoFar l.reading l.line l.rest (script_of l.bytes) × (l.line + length l.rest ≤ length l.bytes)
+
+abbrev pub decreases-loop-text : goal.decreases-loop-text
+decreases-loop-text l = length l.rest
