@@ -1312,7 +1312,9 @@ fn add_plain(alloc: Global, text: &mut String, statement: &Statement) -> Result<
             || add_with_name(alloc, text, statement)?
             || add_with_word(alloc, text, statement)?
             || add_placed(alloc, text, statement)?
-            || add_long(alloc, text, statement)?,
+            || add_double(alloc, text, statement)?
+            || add_long(alloc, text, statement)?
+            || add_listed(alloc, text, statement)?,
     )
 }
 
