@@ -13,6 +13,10 @@
 //! The invariant of both: the items of the storage are settled, so that a copy of one can't be refused.
 //! An array's items begin at the first place of the buffer; a slice's may begin behind it, since its
 //! `pop_first` takes the first item out and moves none.
+//!
+//! `new` and `from_vec` may always answer want of memory, so a body that only does so meets the contract. A
+//! change of a storage that isn't known to be unshared may answer it too. The tests show that such calls
+//! succeed.
 #![tactic(auto)]
 
 mod array;

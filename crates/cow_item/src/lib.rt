@@ -14,7 +14,8 @@
 //! - `atom`: `Atom`, an integer or a text, and how it is read from a script's `Literal`.
 //! - `hash`: the hashes of integers and texts.
 //!
-//! `tests` has an item and key of a user's own: two numbers and a text.
+//! `tests` has an item and key of a user's own, two numbers and a text, and an item whose value counts its
+//! drops.
 #![tactic(auto)]
 
 mod atom;

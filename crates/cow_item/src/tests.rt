@@ -1,13 +1,17 @@
 ghost use Rattle.std.specs.Prelude.{◌≡◌, ◌≤◌, true, false};
 ghost use Rattle.cow_cell.specs.Opens.{Opens};
 ghost use Rattle.cow_item.specs.Parts.{plain_of_part, part_hash};
+ghost use Rattle.cow_model.specs.declared.plain.Literal.TheVariants.{Int};
 
 use crate::{Atom, Item, Key, Text};
-use cow_cell::{Holder, Opening, Stock};
+use cow_cell::{Counted, Holder, Opening, Stock};
 use cow_model::{Bytes, Literal};
 use std::alloc::Global;
 use std::cmp::Ordering;
 use std::marker::Brand;
+use std::sync::Arc;
+use std::sync::atomic::AtomicU64;
+use std::sync::atomic::Ordering::SeqCst;
 use std::test::Fail;
 
 const WHOLE: u64 = 0x4000_0000_0000_0000;
@@ -210,6 +214,82 @@ fn shared_text<Q: Stock>(alloc: Global, opening: Opening) -> Option<(u64, u64, b
 fn two_atoms_share_a_text(rt: HostRuntime) -> Result<(), Fail> {
     let found = shared_text::<Brand>(rt.alloc(), Opening::new());
     assert_eq!(rt; found, Some((WHOLE - 2, 1, true, WHOLE)));
+    Ok(())
+}
+
+/// A number that counts its drops.
+struct Dropped {
+    number: i64,
+    drops: Arc<AtomicU64>,
+}
+
+impl Drop for Dropped {
+    fn drop(self) {
+        let Dropped { number: _, drops } = self;
+        drops.fetch_add(1, SeqCst);
+    }
+}
+
+/// A user's own item: one handle of such a number, as a text is one of its bytes.
+#[derive(Drop)]
+struct Shared<Q: Stock> {
+    cell: Counted<Dropped, Q>,
+}
+
+impl<Q: Stock> Item<Q> for Shared<Q> {
+    const WEIGHT: u64 = 1;
+
+    ghost WEIGHT = { 1 };
+
+    ghost plain = { λ s. Int s.cell.value.number };
+
+    ghost IsSettled = { λ s. s.cell.alone ≡ false };
+
+    ghost is_counted = { λ _. true };
+
+    fn copy(&self, h: &mut Holder<Q>) -> Self {
+        h.note(1);
+        Shared {
+            cell: self.cell.share_settled(h),
+        }
+    }
+
+    fn settle(&mut self) {
+        self.cell.settle();
+    }
+
+    fn end(self, h: &mut Holder<Q>) {
+        let Shared { cell } = self;
+        let _last = cell.end(h);
+    }
+}
+
+/// The drops counted, and what the second item shows, once the first of two that share a block has ended; the
+/// drops and the spare once both have.
+fn shared_block<Q: Stock>(alloc: Global, opening: Opening) -> Option<(u64, i64, u64, u64)>
+    requires { Opens Q.Stock opening }
+{
+    let mut h = Holder::<Q>::fresh(opening);
+    let drops = Arc::new(alloc, AtomicU64::new(0)).ok()?;
+    let number = Dropped {
+        number: 7,
+        drops: drops.clone().ok()?,
+    };
+    let cell = Counted::new(alloc, number, &mut h).ok()?;
+    let mut first = Shared { cell };
+    first.settle();
+    let second = first.copy(&mut h);
+    first.end(&mut h);
+    let early = drops.load(SeqCst);
+    let shown = second.cell.get().number;
+    second.end(&mut h);
+    Some((early, shown, drops.load(SeqCst), h.spare()))
+}
+
+#[test]
+fn two_items_that_share_a_value_drop_it_once(rt: HostRuntime) -> Result<(), Fail> {
+    let found = shared_block::<Brand>(rt.alloc(), Opening::new());
+    assert_eq!(rt; found, Some((0, 7, 1, WHOLE)));
     Ok(())
 }
 

@@ -12,6 +12,9 @@
 //! The layer above names no buffer and no place: it changes a row by list calls, each of which is one
 //! step or one move of memory, but for `reverse` and for `replace_run`, which takes one move and a step
 //! for each item that comes or goes.
+//!
+//! `Row::with_capacity` and `renew` may always answer want of memory, so a body that only does so is proved.
+//! The tests of the collections show that both succeed.
 #![tactic(auto)]
 
 pub mod row;
