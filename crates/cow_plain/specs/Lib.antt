@@ -1,4 +1,3 @@
-pub mod Changes
 pub mod Combinings
 pub mod Kinds
 pub mod Placings

@@ -1,7 +1,7 @@
 // What becomes of an environment, and what is printed.
 ghost use Rattle.std.specs.Prelude.{◌≡◌, IfOk, true};
 ghost use Rattle.cow_model.specs.Step as spec;
-ghost use Rattle.cow_plain.specs.Changes.{flag_of};
+ghost use Rattle.cow_model.specs.Changes.{flag_of};
 ghost use Rattle.cow_model.specs.Sharing as sharing;
 
 use crate::environment::{allow, given, has_place, named, settled};

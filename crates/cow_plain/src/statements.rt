@@ -1,6 +1,6 @@
 // What a statement makes of the values of its names.
 ghost use Rattle.std.specs.Prelude.{◌≡◌, IfOk};
-ghost use Rattle.cow_plain.specs.Changes as spec;
+ghost use Rattle.cow_model.specs.Changes as spec;
 ghost use Rattle.cow_model.specs.declared.statement.Statement.{out-Statement};
 
 use crate::copies::Whole;

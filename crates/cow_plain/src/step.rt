@@ -5,7 +5,7 @@ ghost use Rattle.cow_model.specs.Operation as operation;
 ghost use Rattle.cow_model.specs.Plain as plain;
 ghost use Rattle.cow_model.specs.Sharing as sharing;
 ghost use Rattle.cow_model.specs.Step as spec;
-ghost use Rattle.cow_plain.specs.Changes.{change_of, change_by_of, query_of, query_both_of};
+ghost use Rattle.cow_model.specs.Changes.{change_of, change_by_of, query_of, query_both_of};
 ghost use Rattle.cow_model.specs.declared.statement.Statement.{out-Statement};
 
 use crate::copies::Whole;
