@@ -11,7 +11,7 @@ use Rattle.cow_model.specs.Name.{is_reserved}
 use Rattle.cow_model.specs.Atom.{atom_of}
 use Rattle.cow_model.specs.Words.{word_of, kind_of, side_of, verb_of, group_of, preference_of}
 use Rattle.cow_model.specs.Readers.{due_name, due_atom, due_integer, due_word, due_token, no_more, atoms_from, captures_from}
-use Rattle.cow_model.specs.Forms.{lone_name, name_atom, name_place, name_place_atom, name_side, two_names, name_side_atom, name_places, name_atoms, splice, merge, lazy, give, insert, in_pairs, made, sliced, assigned, value_of, assignment, statement_of}
+use Rattle.cow_model.specs.Forms.{insert_at, insert_atom, no_kind, lone_name, name_atom, name_place, name_place_atom, name_side, two_names, name_side_atom, name_places, name_atoms, splice, merge, lazy, give, insert, in_pairs, made, sliced, assigned, value_of, assignment, statement_of}
 use Rattle.cow_model.specs.Parse.{stands, counted, stated, forked, tasked, ended, read_on, told, remark, with_tokens, with_line, script_of}
 use Rattle.cow_model.specs.Generator.{opening, closing, generated}
 use Rattle.cow_model.specs.Run.{text_of, bound, least}
@@ -22,7 +22,7 @@ rules = Add (pos 1) ∷ Negate ∷ Add (pos 10) ∷ Even ∷ Below (pos 100) ∷
 
 -- the statements of a script, with all that the rows compute opened
 said : Text → Result (List Statement) ParseFault
-unfolding lines_of tokens_of is_reserved atom_of word_of kind_of side_of verb_of group_of preference_of due_name due_atom due_integer due_word due_token no_more atoms_from captures_from lone_name name_atom name_place name_place_atom name_side two_names name_side_atom name_places name_atoms splice merge lazy give insert in_pairs made sliced assigned value_of assignment statement_of stands counted stated forked tasked ended read_on told remark with_tokens with_line script_of digits Rattle.cow_model.specs.declared.statement.Statement.TheViews.out-Statement denote.Hole.Carrier.out Rattle.cow_model.specs.declared.statement.Statement.TheBlock.shown-the_row-TaskBlock-1 denote.Hole.Carrier.shown denote.Hole.Carrier.hidden
+unfolding insert_at insert_atom no_kind lines_of tokens_of is_reserved atom_of word_of kind_of side_of verb_of group_of preference_of due_name due_atom due_integer due_word due_token no_more atoms_from captures_from lone_name name_atom name_place name_place_atom name_side two_names name_side_atom name_places name_atoms splice merge lazy give insert in_pairs made sliced assigned value_of assignment statement_of stands counted stated forked tasked ended read_on told remark with_tokens with_line script_of digits Rattle.cow_model.specs.declared.statement.Statement.TheViews.out-Statement denote.Hole.Carrier.out Rattle.cow_model.specs.declared.statement.Statement.TheBlock.shown-the_row-TaskBlock-1 denote.Hole.Carrier.shown denote.Hole.Carrier.hidden
 said bytes = script_of bytes
 
 abbrev text_in : Result (List Statement) ParseFault → Result Text ParseFault
