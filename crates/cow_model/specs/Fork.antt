@@ -13,12 +13,9 @@ use Rattle.cow_model.specs.declared.refusal.Refusal.TheVariants.{NoName, Full}
 use Rattle.cow_model.specs.declared.outcome.Entry.{Entry}
 use Rattle.cow_model.specs.declared.outcome.Environment.{Environment}
 use Rattle.cow_model.specs.declared.outcome.Outcome.{Outcome}
-
--- the names of a parent and of its task after captures, and the lines of those that were refused
-pub record Captured : Type 0 where
-  pub parent : List Entry
-  pub names : List Entry
-  pub text : Text
+use Rattle.cow_model.specs.declared.fork.Captured.{Captured}
+use Rattle.cow_model.specs.declared.fork.Forked.{Forked}
+use Rattle.cow_model.specs.declared.fork.Task.{Task}
 
 -- a capture of a name that has to be there: moved, or copied, which leaves neither alone
 abbrev pub captured : Captured → Capture → Option Entry → Captured
@@ -31,12 +28,6 @@ captured c capture (Some e) =
 abbrev pub captured_all : Captured → List Capture → Captured
 captured_all c [] = c
 captured_all c (capture ∷ captures) = captured_all (captured c capture (entry_of capture.name c.parent)) captures
-
--- a task in the middle of its run: its environment, its text, and the entries that it has given
-pub record Task : Type 0 where
-  pub env : Environment
-  pub text : Text
-  pub gives : List Entry
 
 -- a task at its start
 abbrev pub task_start : List Entry → Task
@@ -61,26 +52,27 @@ abbrev pub task_run : List Shape → Task → List Statement → Task
 task_run shapes task [] = task
 task_run shapes task (s ∷ ss) = task_run shapes (task_step shapes task (out-Statement s)) ss
 
--- a fork in the middle of its captures: the parent's names, the lines of refused captures, and the tasks with their names
-pub record Forked : Type 0 where
-  pub parent : List Entry
-  pub text : Text
-  pub tasks : List (List Entry × List Statement)
-
 -- a fork once a further task has its captures
-abbrev pub forked_on : Forked → Captured → List Statement → Forked
-forked_on f c statements = record { parent = c.parent; text = f.text ++ c.text; tasks = f.tasks ++ (c.names, statements) ∷ [] }
+abbrev pub forked_on : Forked → Captured → Forked
+forked_on f c = record { parent = c.parent; text = f.text ++ c.text; tasks = f.tasks ++ c.names ∷ [] }
+
+-- the captures of a task, from the names that its parent has left
+abbrev pub captured_by : List Entry → TaskBlock → Captured
+captured_by parent t = captured_all (record { parent = parent; names = []; text = [] }) (out-TaskBlock t).captures
 
 -- the captures of the tasks in written order
 abbrev pub forked : Forked → List TaskBlock → Forked
 forked f [] = f
-forked f (t ∷ ts) =
-    forked (forked_on f (captured_all (record { parent = f.parent; names = []; text = [] }) (out-TaskBlock t).captures) (out-TaskBlock t).statements) ts
+forked f (t ∷ ts) = forked (forked_on f (captured_by f.parent t)) ts
+
+-- a task at its end, from the names that it was given
+abbrev pub task_end : List Shape → List Entry → TaskBlock → Task
+task_end shapes names t = task_run shapes (task_start names) (out-TaskBlock t).statements
 
 -- the tasks at their ends
-abbrev pub tasks_run : List Shape → List (List Entry × List Statement) → List Task
-tasks_run shapes [] = []
-tasks_run shapes (t ∷ ts) = task_run shapes (task_start t.0) t.1 ∷ tasks_run shapes ts
+abbrev pub tasks_run : List Shape → List (List Entry) → List TaskBlock → List Task
+tasks_run shapes (names ∷ more) (t ∷ ts) = task_end shapes names t ∷ tasks_run shapes more ts
+tasks_run shapes names ts = []
 
 -- an entry that a task gave is assigned, where the parent has place for its name
 abbrev pub assigned : Outcome → Entry → Outcome
@@ -112,9 +104,9 @@ abbrev pub ended : Outcome → List Task → Outcome
 ended out tasks = assigned_all (joined_all out tasks) (given_by tasks)
 
 -- a fork whose captures are made
-abbrev pub run_forked : Environment → List Shape → Forked → Outcome
-run_forked env shapes f = ended (record { env = renamed f.parent env; text = f.text }) (tasks_run shapes f.tasks)
+abbrev pub run_forked : Environment → List Shape → Forked → List TaskBlock → Outcome
+run_forked env shapes f tasks = ended (record { env = renamed f.parent env; text = f.text }) (tasks_run shapes f.tasks tasks)
 
 -- `fork`, its tasks and its `end`
 abbrev pub fork_in : Environment → List Shape → List TaskBlock → Outcome
-fork_in env shapes tasks = run_forked env shapes (forked (record { parent = env.names; text = []; tasks = [] }) tasks)
+fork_in env shapes tasks = run_forked env shapes (forked (record { parent = env.names; text = []; tasks = [] }) tasks) tasks

@@ -12,6 +12,7 @@
 #![tactic(auto)]
 
 mod fault;
+mod fork;
 mod memory;
 mod name;
 mod outcome;
@@ -24,6 +25,7 @@ mod value;
 mod word;
 
 pub use fault::{Flaw, ParseFault};
+pub use fork::{Captured, Forked, Task};
 pub use memory::NoMemory;
 pub use name::Name;
 pub use outcome::{Done, Entry, Environment, Outcome};
