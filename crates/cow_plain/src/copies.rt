@@ -2,7 +2,7 @@
 ghost use Rattle.std.specs.Prelude.{◌≡◌, IfOk};
 
 use crate::lists::copied;
-use cow_model::{Bytes, Literal, NoMemory, Pair, Plain};
+use cow_model::{Bytes, Entry, Literal, Name, NoMemory, Pair, Plain};
 use std::alloc::Global;
 
 /// Plain data that can be copied whole.
@@ -48,6 +48,18 @@ impl Whole for Plain {
             Plain::Heap(items) => Plain::Heap(copied(alloc, items.as_slice())?),
             Plain::TSet(items) => Plain::TSet(copied(alloc, items.as_slice())?),
             Plain::TDict(pairs) => Plain::TDict(copied(alloc, pairs.as_slice())?),
+        })
+    }
+}
+
+impl Whole for Entry {
+    fn whole(&self, alloc: Global) -> Result<Self, NoMemory> {
+        let name = Name::from_vec(Vec::from_slice(alloc, self.name.as_slice())?);
+        let value = self.value.whole(alloc)?;
+        Ok(Entry {
+            name,
+            value,
+            alone: self.alone,
         })
     }
 }

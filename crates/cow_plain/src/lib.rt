@@ -7,6 +7,7 @@
 
 mod copies;
 mod environment;
+mod fork;
 mod lazy;
 mod lists;
 mod members;
@@ -16,8 +17,10 @@ mod pairs;
 mod plain;
 mod printed;
 mod query;
+mod script;
 mod sharing;
 mod statements;
 mod step;
 
 pub use copies::Whole;
+pub use script::{Told, run};

@@ -198,8 +198,8 @@ fn added_cost(f: &Entry, adds: bool) -> Result<u64, NoMemory>
     if adds { size(&f.value) } else { Ok(0) }
 }
 
-// The sum of two numbers of copies.
-fn sum(own: u64, added: u64) -> Result<u64, NoMemory>
+/// The sum of two numbers of copies. Want of memory stands for a number past 64 bits.
+pub fn sum(own: u64, added: u64) -> Result<u64, NoMemory>
     ensures { IfOk result (λ n. n ≡ own + added) }
 {
     match own.checked_add(added) {
