@@ -1,3 +1,4 @@
 pub mod Combinings
 pub mod Kinds
 pub mod Placings
+pub mod Scripts

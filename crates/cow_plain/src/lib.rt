@@ -21,6 +21,8 @@ mod script;
 mod sharing;
 mod statements;
 mod step;
+#[cfg(test)]
+mod tests;
 
 pub use copies::Whole;
-pub use script::{Told, run};
+pub use script::{Told, run, run_script};

@@ -1,12 +1,15 @@
 // What a script prints, and how many copies the sharing rule allows it.
 ghost use Rattle.std.specs.Prelude.{◌≡◌, ◌++◌, IfOk};
 ghost use Rattle.cow_model.specs.Run as spec;
+ghost use Rattle.cow_model.specs.Parse.{script_of};
+ghost use Rattle.cow_plain.specs.Scripts.{Tells, Says};
 ghost use Rattle.cow_model.specs.declared.statement.Statement.{out-Statement};
 
 use crate::environment::{has_place, start_with};
 use crate::fork::fork_in;
 use crate::step::{step, sum};
-use cow_model::{Bytes, Environment, NoMemory, Outcome, Shape, Statement};
+use cow_model::{Bytes, Environment, NoMemory, Outcome, ParseFault, Shape, Statement};
+use cow_script::{ParseStop, parse};
 use sqlite_items::Items;
 use std::alloc::Global;
 
@@ -49,9 +52,7 @@ fn least_of(env: &Environment, statement: &Statement) -> usize
 
 /// Runs statements in turn, from an empty environment, with these rules for lazy views.
 pub fn run(alloc: Global, statements: &[Statement], shapes: &[Shape]) -> Result<Told, NoMemory>
-    ensures text { IfOk result (λ told. told.text ≡ spec.text_of statements.now shapes.now) }
-    ensures least { IfOk result (λ told. told.least ≡ spec.least statements.now shapes.now) }
-    ensures bound { IfOk result (λ told. told.bound ≡ spec.bound statements.now shapes.now) }
+    ensures { IfOk result (λ told. Tells statements.now shapes.now told) }
 {
     let mut env = start_with(Items::new(alloc));
     let mut text = Vec::new(alloc);
@@ -67,4 +68,20 @@ pub fn run(alloc: Global, statements: &[Statement], shapes: &[Shape]) -> Result<
         least,
         bound: env.allowed,
     })
+}
+
+/// What the definitions say of these bytes, with these rules for lazy views: what the script prints, or
+/// its fault.
+pub fn run_script(
+    alloc: Global,
+    bytes: &[u8],
+    shapes: &[Shape],
+) -> Result<Result<Told, ParseFault>, NoMemory>
+    ensures { IfOk result (λ said. Says (script_of bytes.now) shapes.now said) }
+{
+    match parse(alloc, bytes) {
+        Ok(script) => Ok(Ok(run(alloc, script.statements.as_slice(), shapes)?)),
+        Err(ParseStop::Fault(fault)) => Ok(Err(fault)),
+        Err(ParseStop::NoMemory) => Err(NoMemory),
+    }
 }
