@@ -149,6 +149,38 @@ heap_calls : text (codes "let h = heap 4 1 3\ninsert h 9\npeek h max\nreplace h 
 unfolding said
 heap_calls = refl
 
+a_change_of_an_alone_value : census (codes "let a = array 1 2 3\nappend a 4\nappend a 5\n") ≡ Ok ([], 3, 5)
+unfolding said
+a_change_of_an_alone_value = refl
+
+the_same_element_again : census (codes "let a = array 1 2\nlet b = a\nset a 0 1\nset a 0 1\n") ≡ Ok ([], 2, 8)
+unfolding said
+the_same_element_again = refl
+
+first_elements_of_a_shared_slice : census (codes "let a = array 1 2 3\nlet s = slice a 0 3\npop s first\npop s first\n") ≡ Ok (codes "1\n2\n", 3, 5)
+unfolding said
+first_elements_of_a_shared_slice = refl
+
+refused_statements : census (codes "let a = array 1\nlet b = a\nappend z 1\nremove a 9\n") ≡ Ok (codes "! no name\n! out of range\n", 1, 3)
+unfolding said
+refused_statements = refl
+
+one_key_of_a_trie : census (codes "let t = tset 1 2\nlet u = t\ninsert u 3\n") ≡ Ok (codes "true\n", 2, 5)
+unfolding said
+one_key_of_a_trie = refl
+
+a_lazy_look : census (codes "let a = array 1 2\nlazy a 0 first\nappend a 3\n") ≡ Ok (codes "2\n", 2, 6)
+unfolding said
+a_lazy_look = refl
+
+a_value_beside_itself : census (codes "let a = array 1\nequal a a\nappend a 2\n") ≡ Ok (codes "true\n", 1, 3)
+unfolding said
+a_value_beside_itself = refl
+
+a_pair_is_two : census (codes "let d = dict 1 2\nlet e = d\nput e 1 3\n") ≡ Ok (codes "2\n", 2, 6)
+unfolding said
+a_pair_is_two = refl
+
 the_generator : text (generated 0 1) ≡ Ok (codes "nil\ntrue\nnil\nnil\n[]\n[-1]\n[]\n[]\n[:]\n[]\n[:]\n")
 unfolding said opening closing
 the_generator = refl

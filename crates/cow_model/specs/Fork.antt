@@ -1,13 +1,13 @@
 -- Forks: the captures are made, the tasks run one after another, and what they give is assigned.
-use Rattle.std.specs.Prelude.{ℕ, ◌+◌, Bool, true, false, List, [], ◌∷◌, ◌++◌, Option, Some, None, if◌then◌else◌}
+use Rattle.std.specs.Prelude.{List, [], ◌∷◌, ◌++◌, Option, Some, None, if◌then◌else◌}
 use Rattle.cow_model.specs.Lexis.{Text}
 use Rattle.cow_model.specs.Printed.{refusal}
 use Rattle.cow_model.specs.Env.{start_with, entry_of, has_place, given, without, settled, shared, renamed, allow}
-use Rattle.cow_model.specs.Step.{quiet, refused, step}
+use Rattle.cow_model.specs.Step.{step}
 use Rattle.cow_model.specs.declared.shape.Shape.{Shape}
 use Rattle.cow_model.specs.declared.statement.Capture.{Capture}
 use Rattle.cow_model.specs.declared.statement.Statement.{Statement, out-Statement}
-use Rattle.cow_model.specs.declared.statement.Statement.TheOpen.{Statement-F, TaskBlock-F}
+use Rattle.cow_model.specs.declared.statement.Statement.TheOpen.{Statement-F}
 use Rattle.cow_model.specs.declared.statement.TaskBlock.{TaskBlock, out-TaskBlock}
 use Rattle.cow_model.specs.declared.refusal.Refusal.TheVariants.{NoName, Full}
 use Rattle.cow_model.specs.declared.outcome.Entry.{Entry}

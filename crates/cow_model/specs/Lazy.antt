@@ -1,5 +1,5 @@
 -- Lazy views of an array through a rule, and how many integers of it they ask.
-use Rattle.std.specs.Prelude.{ℕ, ℤ, ◌+◌, ◌%◌, pos, negsuc, ◌+ℤ◌, neg_ℤ, nat_abs, int_lt, nat_lt, ◌==◌, Bool, true, false, ◌&&◌, ◌^◌, ◌-◌, List, [], ◌∷◌, length, map, filter, count_by, if◌then◌else◌}
+use Rattle.std.specs.Prelude.{ℕ, ℤ, ◌+◌, ◌%◌, pos, negsuc, ◌+ℤ◌, neg_ℤ, nat_abs, int_lt, nat_lt, ◌==◌, Bool, true, false, ◌^◌, ◌-◌, List, [], ◌∷◌, map, filter, count_by, if◌then◌else◌}
 use Rattle.cow_model.specs.declared.plain.Literal.{Literal}
 use Rattle.cow_model.specs.declared.plain.Literal.TheVariants.{Int, Text}
 use Rattle.cow_model.specs.declared.shape.Shape.{Shape}

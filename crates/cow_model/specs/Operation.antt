@@ -1,13 +1,11 @@
 -- What a statement does to the value of a name, kind by kind: the value after it and what is printed, or why it is refused.
-use Rattle.std.specs.Prelude.{codes, ℕ, ℤ, pos, negsuc, ◌+◌, ◌-◌, ◌&&◌, Bool, true, false, nat_le, nat_lt, List, [], ◌∷◌, ◌++◌, length, take, drop, reverse, slice_get, slice_set, Option, Some, None, Result, Ok, Err, fold, is_some, if◌then◌else◌}
-use Rattle.std.specs.Option.{option_map}
+use Rattle.std.specs.Prelude.{codes, ℕ, ℤ, pos, negsuc, ◌+◌, ◌-◌, ◌&&◌, Bool, true, false, nat_le, nat_lt, List, [], ◌∷◌, ◌++◌, length, take, drop, reverse, slice_get, slice_set, Option, Some, None, Result, Ok, Err, fold, if◌then◌else◌}
 use Rattle.std.specs.List as list
-use Rattle.std.specs.Fmt.{decimal}
 use Rattle.cow_model.specs.Lexis.{Text}
 use Rattle.cow_model.specs.Printed.{line, atom_text, pair_text, nil_or, truth}
 use Rattle.cow_model.specs.Members as members
 use Rattle.cow_model.specs.Pairs as pairs
-use Rattle.cow_model.specs.Plain.{max_count, count, same_items, same_pairs}
+use Rattle.cow_model.specs.Plain.{max_count, count}
 use Rattle.cow_model.specs.declared.plain.Literal.{Literal}
 use Rattle.cow_model.specs.declared.plain.Literal.TheVariants as literal
 use Rattle.cow_model.specs.declared.value.Pair.{Pair}

@@ -1,15 +1,14 @@
 -- What a statement that only reads prints of a value, or why it is refused.
-use Rattle.std.specs.Prelude.{ℕ, ℤ, ◌-◌, Bool, not, List, [], length, codes, slice_get, Option, Some, None, Result, Ok, Err, is_some}
+use Rattle.std.specs.Prelude.{ℕ, ℤ, ◌-◌, Bool, List, length, Option, Some, None, Result, Ok, Err, is_some}
 use Rattle.std.specs.Fmt.{decimal}
 use Rattle.cow_model.specs.Lexis.{Text}
-use Rattle.cow_model.specs.Printed.{line, atom_text, nil_or, truth}
+use Rattle.cow_model.specs.Printed.{nil_or, truth}
 use Rattle.cow_model.specs.Members as members
 use Rattle.cow_model.specs.Pairs as pairs
 use Rattle.cow_model.specs.Plain.{count, same_items, same_pairs}
 use Rattle.cow_model.specs.Operation.{index, element, pair, value_under}
 use Rattle.cow_model.specs.declared.plain.Literal.{Literal}
 use Rattle.cow_model.specs.declared.plain.Literal.TheVariants as literal
-use Rattle.cow_model.specs.declared.value.Pair.{Pair}
 use Rattle.cow_model.specs.declared.value.Plain.{Plain}
 use Rattle.cow_model.specs.declared.value.Plain.TheVariants.{Array, Slice, Deque, Set, Dict, OSet, ODict, Heap, TSet, TDict}
 use Rattle.cow_model.specs.declared.statement.Side.{Side}

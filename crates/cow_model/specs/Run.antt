@@ -1,5 +1,5 @@
 -- What a script prints, and how many copies the sharing rule allows it: folds over its statements, on one thread.
-use Rattle.std.specs.Prelude.{ℕ, ◌+◌, Bool, List, [], ◌∷◌, ◌++◌, length, if◌then◌else◌}
+use Rattle.std.specs.Prelude.{ℕ, ◌+◌, List, [], ◌∷◌, ◌++◌, length, if◌then◌else◌}
 use Rattle.cow_model.specs.Lexis.{Text}
 use Rattle.cow_model.specs.Env.{start, has_place}
 use Rattle.cow_model.specs.Step.{step}

@@ -1,13 +1,12 @@
 -- The sharing rule: how many copies a statement allows, and when a name's value is taken to be alone in its storage.
-use Rattle.std.specs.Prelude.{ℕ, ◌+◌, ◌*◌, min, ◌==◌, Bool, true, false, not, ◌||◌, List, [], ◌∷◌, length, count_by, if◌then◌else◌}
+use Rattle.std.specs.Prelude.{ℕ, ◌+◌, ◌*◌, min, ◌==◌, Bool, not, ◌||◌, length, count_by, if◌then◌else◌}
 use Rattle.cow_model.specs.Hash.{literal_hash}
 use Rattle.cow_model.specs.Plain.{size, is_tree, same_plain}
 use Rattle.cow_model.specs.declared.plain.Literal.{Literal}
-use Rattle.cow_model.specs.declared.value.Pair.{Pair}
 use Rattle.cow_model.specs.declared.value.Plain.{Plain}
 use Rattle.cow_model.specs.declared.value.Plain.TheVariants.{Slice, TSet, TDict}
 use Rattle.cow_model.specs.declared.statement.Side.{Side}
-use Rattle.cow_model.specs.declared.statement.Side.TheVariants.{First, Last, Min, Max}
+use Rattle.cow_model.specs.declared.statement.Side.TheVariants.{First}
 use Rattle.cow_model.specs.declared.statement.Statement.{Statement}
 use Rattle.cow_model.specs.declared.statement.TaskBlock.{TaskBlock}
 use Rattle.cow_model.specs.declared.statement.Statement.TheOpen.{Statement-F}

@@ -5,10 +5,17 @@
 //!
 //! - `Lexis`, `Integer`, `Atom`, `Name`, `Words`, `Readers`, `Forms`, `Parse`: which statements the bytes of
 //!   a script are, or which fault they have;
-//! - `Env`, `Printed`, `Run`: what a script prints, on one thread, with a whole list for each value;
+//! - `Plain`, `Order`, `Members`, `Pairs`, `Printed`: plain values, as lists, sets and maps, and how they print;
+//! - `Operation`, `Query`, `Changes`: what a statement makes of a value, and what it reads of one;
+//! - `Env`, `Step`, `Fork`, `Run`: what a script prints, on one thread, with a whole value for each name;
+//! - `Sharing`: how many copies a statement allows, and when a value is taken to be alone;
+//! - `Lazy`, `Generator`: views of arrays through rules, and the generator of scripts;
 //! - `Fronts`: what may be written of a text when a run stops early;
-//! - `Literals`, `Order`: plain atoms and their order;
+//! - `Hash`, `Literals`: the hashes of plain atoms, and what kind of atom one is;
 //! - `Purse`, `Flat`, `Lists`: what a contract says of a holder and of a collection over one storage.
+//!
+//! docs/MEANING.md leads through them. `proofs/Rows` and `proofs/ParseRows` compute worked scripts, so a
+//! definition that says something else is an error of the check.
 #![tactic(auto)]
 
 mod fault;

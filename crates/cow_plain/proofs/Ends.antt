@@ -1,5 +1,5 @@
 -- The tasks of a fork, once there are no names or no tasks left.
-use Rattle.std.proofs.Common.{◌≡◌, ◌<◌, ℕ, List, [], ◌∷◌, ◌++◌, length, refl, ap, sym, ◌∙◌, arith, append-nil}
+use Rattle.std.proofs.Common.{◌≡◌, ◌<◌, List, [], ◌∷◌, ◌++◌, length, refl, ap, sym, ◌∙◌, arith, append-nil}
 use Rattle.cow_model.specs.Fork.{tasks_run}
 use Rattle.cow_model.specs.declared.fork.Task.{Task}
 use Rattle.cow_model.specs.declared.outcome.Entry.{Entry}

@@ -32,12 +32,7 @@ pub fn count_of(alloc: Global, value: &Plain) -> Result<Told, NoMemory>
 }
 
 // The element at a position, where the position is an integer.
-fn get_at(
-    alloc: Global,
-    start: u64,
-    x: &Literal,
-    items: &[Literal],
-) -> Result<Told, NoMemory>
+fn get_at(alloc: Global, start: u64, x: &Literal, items: &[Literal]) -> Result<Told, NoMemory>
     ensures { IfOk result (λ told. told ≡ spec.get_at start x.now items.now) }
 {
     let Literal::Int(i) = x else {
@@ -47,11 +42,7 @@ fn get_at(
 }
 
 // The element at a place, which has to be there.
-fn element_at(
-    alloc: Global,
-    place: Option<usize>,
-    items: &[Literal],
-) -> Result<Told, NoMemory>
+fn element_at(alloc: Global, place: Option<usize>, items: &[Literal]) -> Result<Told, NoMemory>
     ensures { IfOk result (λ told. told ≡ spec.at_place place (operation.element items.now)) }
 {
     match place {

@@ -41,9 +41,7 @@ fn least_of(env: &Environment, statement: &Statement) -> usize
     ensures { result ≡ spec.least_layer env.now (out-Statement statement.now) }
 {
     match statement {
-        Statement::Let { name, atoms, .. }
-            if has_place(name.as_slice(), env.names.as_slice()) =>
-        {
+        Statement::Let { name, atoms, .. } if has_place(name.as_slice(), env.names.as_slice()) => {
             atoms.len()
         }
         _ => 0,

@@ -2,11 +2,10 @@
 ghost use Rattle.std.specs.Prelude.{◌≡◌, IfOk, count_by, length};
 ghost use Rattle.cow_model.specs.Hash as hash;
 ghost use Rattle.cow_model.specs.Sharing as spec;
+ghost use Rattle.cow_model.specs.declared.statement.Statement.{out-Statement};
 
 use crate::plain::{is_tree, same_plain, size};
 use cow_model::{Entry, Literal, NoMemory, Pair, Plain, Side, Statement};
-
-ghost use Rattle.cow_model.specs.declared.statement.Statement.{out-Statement};
 
 /// The literal atoms of a statement.
 pub fn literals(statement: &Statement) -> usize
@@ -106,7 +105,11 @@ pub fn key_cost(a: &Literal, e: &Entry) -> Result<u64, NoMemory>
             path_cost(1, items.len() as u64, alike(a, items.as_slice()) as u64)
         }
         Plain::TDict(pairs) => {
-            path_cost(2, pairs.len() as u64, keys_alike(a, pairs.as_slice()) as u64)
+            path_cost(
+                2,
+                pairs.len() as u64,
+                keys_alike(a, pairs.as_slice()) as u64,
+            )
         }
         _ => own_cost(e),
     }
@@ -126,7 +129,11 @@ pub fn pop_cost(side: Side, e: &Entry) -> Result<u64, NoMemory>
 pub fn both_cost(e: &Entry) -> Result<u64, NoMemory>
     ensures { IfOk result (λ n. n ≡ spec.both_cost e.now) }
 {
-    if is_tree(&e.value) { size(&e.value) } else { own_cost(e) }
+    if is_tree(&e.value) {
+        size(&e.value)
+    } else {
+        own_cost(e)
+    }
 }
 
 /// Whether a value is alone once it has become another.

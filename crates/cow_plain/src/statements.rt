@@ -43,9 +43,11 @@ pub fn changed(alloc: Global, statement: &Statement, value: &Plain) -> Result<An
         Statement::Reserve { c, .. } => reserve(alloc, *c, value),
         Statement::Clear { .. } => clear(alloc, value),
         Statement::Rebase { .. } => rebase(alloc, value),
-        Statement::Put { key, value: put_value, .. } => {
-            put(alloc, &pair(alloc, key, put_value)?, value)
-        }
+        Statement::Put {
+            key,
+            value: put_value,
+            ..
+        } => { put(alloc, &pair(alloc, key, put_value)?, value) }
         _ => wrong(),
     }
 }

@@ -163,12 +163,7 @@ fn change_key(
 }
 
 // `pop N END`
-fn pop_in(
-    alloc: Global,
-    env: Environment,
-    name: &[u8],
-    side: Side,
-) -> Result<Outcome, NoMemory>
+fn pop_in(alloc: Global, env: Environment, name: &[u8], side: Side) -> Result<Outcome, NoMemory>
     ensures { IfOk result (λ out. out ≡ spec.pop_in env name.now side) }
 {
     let Some(e) = entry_of(name, env.names.as_slice()) else {
@@ -334,15 +329,22 @@ fn act(
     ensures { IfOk result (λ out. out ≡ spec.act env shapes.now (out-Statement statement.now)) }
 {
     match statement {
-        Statement::Let { name, kind, atoms, .. } => {
-            make_in(alloc, env, name.as_slice(), *kind, atoms.as_slice())
-        }
+        Statement::Let {
+            name,
+            kind,
+            atoms,
+            ..
+        } => { make_in(alloc, env, name.as_slice(), *kind, atoms.as_slice()) }
         Statement::Assign { name, other, .. } => {
             assign_in(alloc, env, name.as_slice(), other.as_slice())
         }
-        Statement::Slice { name, other, i, j, .. } => {
-            slice_in(alloc, env, name.as_slice(), other.as_slice(), *i, *j)
-        }
+        Statement::Slice {
+            name,
+            other,
+            i,
+            j,
+            ..
+        } => { slice_in(alloc, env, name.as_slice(), other.as_slice(), *i, *j) }
         Statement::Discard { name, .. } => discard_in(alloc, env, name.as_slice()),
         Statement::Show { name, .. } => show_in(alloc, env, name.as_slice()),
         Statement::Pop { name, side, .. } => pop_in(alloc, env, name.as_slice(), *side),
@@ -352,9 +354,11 @@ fn act(
         Statement::Insert { name, atom, .. }
         | Statement::Update { name, atom, .. }
         | Statement::Remove { name, atom, .. }
-        | Statement::Put { name, key: atom, .. } => {
-            change_key(alloc, env, name.as_slice(), atom, statement)
-        }
+        | Statement::Put {
+            name,
+            key: atom,
+            ..
+        } => { change_key(alloc, env, name.as_slice(), atom, statement) }
         Statement::Append { name, .. }
         | Statement::Prepend { name, .. }
         | Statement::InsertAt { name, .. }
@@ -372,12 +376,26 @@ fn act(
         | Statement::Union { name, other, .. }
         | Statement::SymDiff { name, other, .. }
         | Statement::Merge { name, other, .. } => {
-            change_by(alloc, env, name.as_slice(), other.as_slice(), true, statement)
+            change_by(
+                alloc,
+                env,
+                name.as_slice(),
+                other.as_slice(),
+                true,
+                statement,
+            )
         }
         Statement::Inter { name, other, .. }
         | Statement::Minus { name, other, .. }
         | Statement::Within { name, other, .. } => {
-            change_by(alloc, env, name.as_slice(), other.as_slice(), false, statement)
+            change_by(
+                alloc,
+                env,
+                name.as_slice(),
+                other.as_slice(),
+                false,
+                statement,
+            )
         }
         Statement::Count { name, .. }
         | Statement::Get { name, .. }

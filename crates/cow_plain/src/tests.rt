@@ -22,20 +22,14 @@ const ROWS: &[(&str, &str)] = &[
     ),
     ("", ""),
     // assign_copies_nothing
-    (
-        "let a = array 1 2 3 / let b = a / show b",
-        "[1, 2, 3]",
-    ),
+    ("let a = array 1 2 3 / let b = a / show b", "[1, 2, 3]"),
     // slice_keeps_indices
     (
         "let a = array 10 20 30 40 50 / let s = slice a 2 4 / set s 2 31 / show s / show a / get s 1",
         "[31, 40] from 2 / [10, 20, 30, 40, 50] / ! out of range",
     ),
     // extend_self
-    (
-        "let a = array 1 2 / extend a a / show a",
-        "[1, 2, 1, 2]",
-    ),
+    ("let a = array 1 2 / extend a a / show a", "[1, 2, 1, 2]"),
     // empty_array
     (
         "let a = array / pop a last / remove a 0 / remove a \"x\" / pop a min / show a",
@@ -147,15 +141,31 @@ const ROWS: &[(&str, &str)] = &[
         "9 / 1 / 9 / [0, 3, 4, 7]",
     ),
     // no_such_name
-    (
-        "let a = array 1 / append z 2 / show a",
-        "! no name / [1]",
-    ),
+    ("let a = array 1 / append z 2 / show a", "! no name / [1]"),
     // escapes
+    ("#cow 1 / let a = array \"x\\\"y\" / show a", "[\"x\\\"y\"]"),
+    // a_change_of_an_alone_value
+    ("let a = array 1 2 3 / append a 4 / append a 5", ""),
+    // the_same_element_again
+    ("let a = array 1 2 / let b = a / set a 0 1 / set a 0 1", ""),
+    // first_elements_of_a_shared_slice
     (
-        "#cow 1 / let a = array \"x\\\"y\" / show a",
-        "[\"x\\\"y\"]",
+        "let a = array 1 2 3 / let s = slice a 0 3 / pop s first / pop s first",
+        "1 / 2",
     ),
+    // refused_statements
+    (
+        "let a = array 1 / let b = a / append z 1 / remove a 9",
+        "! no name / ! out of range",
+    ),
+    // one_key_of_a_trie
+    ("let t = tset 1 2 / let u = t / insert u 3", "true"),
+    // a_lazy_look
+    ("let a = array 1 2 / lazy a 0 first / append a 3", "2"),
+    // a_value_beside_itself
+    ("let a = array 1 / equal a a / append a 2", "true"),
+    // a_pair_is_two
+    ("let d = dict 1 2 / let e = d / put e 1 3", "2"),
 ];
 
 // A script, and the copies that it makes, at least and at most.
@@ -168,11 +178,7 @@ const COPIES: &[(&str, u64, u64)] = &[
     ),
     ("", 0, 0),
     // assign_copies_nothing
-    (
-        "let a = array 1 2 3 / let b = a / show b",
-        3,
-        3,
-    ),
+    ("let a = array 1 2 3 / let b = a / show b", 3, 3),
     // slice_keeps_indices
     (
         "let a = array 10 20 30 40 50 / let s = slice a 2 4 / set s 2 31 / show s / show a / get s 1",
@@ -180,17 +186,41 @@ const COPIES: &[(&str, u64, u64)] = &[
         9,
     ),
     // extend_self
-    (
-        "let a = array 1 2 / extend a a / show a",
-        2,
-        6,
-    ),
+    ("let a = array 1 2 / extend a a / show a", 2, 6),
     // fork_copy_take
     (
         "let c = array 1 2 / fork / task copy c / append c 3 / show c / end / task take c / append c 4 / show c / end / end / show c",
         2,
         8,
     ),
+    // a_change_of_an_alone_value
+    ("let a = array 1 2 3 / append a 4 / append a 5", 3, 5),
+    // the_same_element_again
+    (
+        "let a = array 1 2 / let b = a / set a 0 1 / set a 0 1",
+        2,
+        8,
+    ),
+    // first_elements_of_a_shared_slice
+    (
+        "let a = array 1 2 3 / let s = slice a 0 3 / pop s first / pop s first",
+        3,
+        5,
+    ),
+    // refused_statements
+    (
+        "let a = array 1 / let b = a / append z 1 / remove a 9",
+        1,
+        3,
+    ),
+    // one_key_of_a_trie
+    ("let t = tset 1 2 / let u = t / insert u 3", 2, 5),
+    // a_lazy_look
+    ("let a = array 1 2 / lazy a 0 first / append a 3", 2, 6),
+    // a_value_beside_itself
+    ("let a = array 1 / equal a a / append a 2", 1, 3),
+    // a_pair_is_two
+    ("let d = dict 1 2 / let e = d / put e 1 3", 2, 6),
 ];
 
 // A row as the bytes of a script or a text.

@@ -1,6 +1,6 @@
 use Rattle.std.proofs.Common.{◌≡◌, ◌+◌, ◌++◌, drop}
 use Rattle.cow_model.specs.Env.{start}
-use Rattle.cow_model.specs.Run.{env_after, text_from, text_of, least_from, least, bound}
+use Rattle.cow_model.specs.Run.{env_after, text_from, text_of, least_from, least}
 use Rattle.cow_plain.proofs.script.run.Given as goal
 
 -- what has run, and the statements to come
