@@ -276,16 +276,19 @@ on_sets f (TSet items) (TSet others) = silent (TSet (f members.in_order items ot
 on_sets f (OSet items) (OSet others) = silent (OSet (f members.last items others))
 on_sets f value other = wrong
 
--- `union N M`, `inter N M`, `minus N M`, `symdiff N M`
+-- `union N M`
 abbrev pub union : Plain → Plain → Answer
 union = on_sets members.union
 
+-- `inter N M`
 abbrev pub inter : Plain → Plain → Answer
 inter = on_sets (λ place. members.inter)
 
+-- `minus N M`
 abbrev pub minus : Plain → Plain → Answer
 minus = on_sets (λ place. members.minus)
 
+-- `symdiff N M`
 abbrev pub symdiff : Plain → Plain → Answer
 symdiff = on_sets members.symdiff
 

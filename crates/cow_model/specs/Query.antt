@@ -83,10 +83,11 @@ of_sets f (TSet items) (TSet others) = Ok (truth (f items others))
 of_sets f (OSet items) (OSet others) = Ok (truth (f items others))
 of_sets f value other = wrong
 
--- `subset N M` and `disjoint N M`
+-- `subset N M`
 abbrev pub subset : Plain → Plain → Told
 subset = of_sets members.subset
 
+-- `disjoint N M`
 abbrev pub disjoint : Plain → Plain → Told
 disjoint = of_sets members.disjoint
 

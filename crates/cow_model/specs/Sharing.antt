@@ -52,6 +52,7 @@ key_cost_of a e (TSet items) = path_cost 1 (length items) (count_by (same_hash a
 key_cost_of a e (TDict pairs) = path_cost 2 (length pairs) (count_by (λ p. same_hash a p.key) pairs)
 key_cost_of a e value = own_cost e
 
+-- the same of an entry's own value
 abbrev pub key_cost : Literal → Entry → ℕ
 key_cost a e = key_cost_of a e e.value
 
@@ -60,6 +61,7 @@ abbrev pub pop_cost_of : Side → Entry → Plain → ℕ
 pop_cost_of First e (Slice start items) = if e.alone then 0 else 1
 pop_cost_of side e value = own_cost e
 
+-- the same of an entry's own value
 abbrev pub pop_cost : Side → Entry → ℕ
 pop_cost side e = pop_cost_of side e e.value
 
@@ -76,5 +78,6 @@ abbrev pub alone_after_pop_of : Side → Plain → Entry → Plain → Bool
 alone_after_pop_of First (Slice start items) e value = e.alone
 alone_after_pop_of side before e value = alone_after e value
 
+-- whether an entry is alone after `pop`
 abbrev pub alone_after_pop : Side → Entry → Plain → Bool
 alone_after_pop side e value = alone_after_pop_of side e.value e value

@@ -39,6 +39,7 @@ abbrev pub with_found : Environment → Option Entry → (Entry → Outcome) →
 with_found env None run = refused env NoName
 with_found env (Some e) run = run e
 
+-- and with the entry of that name among the others
 abbrev pub with_entry : Environment → Text → (Entry → Outcome) → Outcome
 with_entry env name run = with_found env (entry_of name env.names) run
 
@@ -161,6 +162,51 @@ lazy_at env shapes name i verb value = refused env WrongKind
 abbrev pub lazy_in : Environment → List Shape → Text → ℤ → Verb → Outcome
 lazy_in env shapes name i verb = with_entry env name (λ e. lazy_at env shapes name i verb e.value)
 
+-- what a statement that reads values does; any other does nothing
+abbrev pub asking : Environment → Layer → Outcome
+asking env (Statement-F.Count l n) = ask env n query.count_of
+asking env (Statement-F.Get l n x) = ask env n (query.get x)
+asking env (Statement-F.At l n i) = ask env n (query.at i)
+asking env (Statement-F.Has l n a) = ask env n (query.has a)
+asking env (Statement-F.Place l n a) = ask env n (query.place a)
+asking env (Statement-F.Peek l n side) = ask env n (query.peek side)
+asking env (Statement-F.Subset l n m) = ask_both env n m query.subset
+asking env (Statement-F.Disjoint l n m) = ask_both env n m query.disjoint
+asking env (Statement-F.Equal l n m) = ask_both env n m query.equal
+asking env s = quiet env
+
+-- what a statement that changes one value by another does; any other is left to those that read
+abbrev pub changing_by : Environment → Layer → Outcome
+changing_by env (Statement-F.Extend l n m) = change_by env n m true operation.extend
+changing_by env (Statement-F.Union l n m) = change_by env n m true operation.union
+changing_by env (Statement-F.Inter l n m) = change_by env n m false operation.inter
+changing_by env (Statement-F.Minus l n m) = change_by env n m false operation.minus
+changing_by env (Statement-F.SymDiff l n m) = change_by env n m true operation.symdiff
+changing_by env (Statement-F.Merge l n m take) = change_by env n m true (operation.merge take)
+changing_by env (Statement-F.Within l n m) = change_by env n m false operation.within
+changing_by env s = asking env s
+
+-- what a statement that changes one value does; any other is left to those above
+abbrev pub changing : Environment → Layer → Outcome
+changing env (Statement-F.Append l n a) = change env n (operation.append a)
+changing env (Statement-F.Prepend l n a) = change env n (operation.prepend a)
+changing env (Statement-F.Insert l n a) = change_key env n a (operation.insert a)
+changing env (Statement-F.InsertAt l n i a) = change env n (operation.insert_at i a)
+changing env (Statement-F.Update l n a) = change_key env n a (operation.update a)
+changing env (Statement-F.Remove l n x) = change_key env n x (operation.remove x)
+changing env (Statement-F.RemoveAt l n i) = change env n (operation.remove_at i)
+changing env (Statement-F.Set l n i a) = change env n (operation.set i a)
+changing env (Statement-F.Replace l n side a) = change env n (operation.replace side a)
+changing env (Statement-F.Swap l n i j) = change env n (operation.swap i j)
+changing env (Statement-F.Reverse l n) = change env n operation.reversed
+changing env (Statement-F.Rotate l n c) = change env n (operation.rotate c)
+changing env (Statement-F.Splice l n i j atoms) = change env n (operation.splice i j atoms)
+changing env (Statement-F.Reserve l n c) = change env n (operation.reserve c)
+changing env (Statement-F.Clear l n) = change env n operation.clear
+changing env (Statement-F.Rebase l n) = change env n operation.rebase
+changing env (Statement-F.Put l n k v) = change_key env n k (operation.put (record { key = k; value = v }))
+changing env s = changing_by env s
+
 -- what a statement does once its literals are allowed
 abbrev pub act : Environment → List Shape → Layer → Outcome
 act env shapes (Statement-F.Let l n kind atoms) = let_in env n (operation.made kind atoms)
@@ -168,43 +214,9 @@ act env shapes (Statement-F.Assign l n m) = assign_in env n m
 act env shapes (Statement-F.Slice l n m i j) = slice_in env n m i j
 act env shapes (Statement-F.Discard l n) = discard_in env n
 act env shapes (Statement-F.Show l n) = show_in env n
-act env shapes (Statement-F.Count l n) = ask env n query.count_of
-act env shapes (Statement-F.Append l n a) = change env n (operation.append a)
-act env shapes (Statement-F.Prepend l n a) = change env n (operation.prepend a)
-act env shapes (Statement-F.Insert l n a) = change_key env n a (operation.insert a)
-act env shapes (Statement-F.InsertAt l n i a) = change env n (operation.insert_at i a)
-act env shapes (Statement-F.Update l n a) = change_key env n a (operation.update a)
-act env shapes (Statement-F.Remove l n x) = change_key env n x (operation.remove x)
-act env shapes (Statement-F.RemoveAt l n i) = change env n (operation.remove_at i)
-act env shapes (Statement-F.Set l n i a) = change env n (operation.set i a)
-act env shapes (Statement-F.Get l n x) = ask env n (query.get x)
-act env shapes (Statement-F.At l n i) = ask env n (query.at i)
-act env shapes (Statement-F.Has l n a) = ask env n (query.has a)
-act env shapes (Statement-F.Place l n a) = ask env n (query.place a)
 act env shapes (Statement-F.Pop l n side) = pop_in env n side
-act env shapes (Statement-F.Peek l n side) = ask env n (query.peek side)
-act env shapes (Statement-F.Replace l n side a) = change env n (operation.replace side a)
-act env shapes (Statement-F.Swap l n i j) = change env n (operation.swap i j)
-act env shapes (Statement-F.Reverse l n) = change env n operation.reversed
-act env shapes (Statement-F.Rotate l n c) = change env n (operation.rotate c)
-act env shapes (Statement-F.Splice l n i j atoms) = change env n (operation.splice i j atoms)
-act env shapes (Statement-F.Reserve l n c) = change env n (operation.reserve c)
-act env shapes (Statement-F.Clear l n) = change env n operation.clear
-act env shapes (Statement-F.Rebase l n) = change env n operation.rebase
-act env shapes (Statement-F.Extend l n m) = change_by env n m true operation.extend
-act env shapes (Statement-F.Union l n m) = change_by env n m true operation.union
-act env shapes (Statement-F.Inter l n m) = change_by env n m false operation.inter
-act env shapes (Statement-F.Minus l n m) = change_by env n m false operation.minus
-act env shapes (Statement-F.SymDiff l n m) = change_by env n m true operation.symdiff
-act env shapes (Statement-F.Subset l n m) = ask_both env n m query.subset
-act env shapes (Statement-F.Disjoint l n m) = ask_both env n m query.disjoint
-act env shapes (Statement-F.Equal l n m) = ask_both env n m query.equal
-act env shapes (Statement-F.Put l n k v) = change_key env n k (operation.put (record { key = k; value = v }))
-act env shapes (Statement-F.Merge l n m take) = change_by env n m true (operation.merge take)
-act env shapes (Statement-F.Within l n m) = change_by env n m false operation.within
 act env shapes (Statement-F.Lazy l n i verb) = lazy_in env shapes n i verb
-act env shapes (Statement-F.Fork l tasks) = quiet env
-act env shapes (Statement-F.Give l y z) = quiet env
+act env shapes s = changing env s
 
 -- a statement that is no fork and no give
 abbrev pub step : Environment → List Shape → Layer → Outcome

@@ -319,6 +319,90 @@ fn make_in(
     let_in(alloc, env, name, value)
 }
 
+// What a statement that reads values does.
+fn asking(alloc: Global, env: Environment, statement: &Statement) -> Result<Outcome, NoMemory>
+    ensures { IfOk result (λ out. out ≡ spec.asking env (out-Statement statement.now)) }
+{
+    match statement {
+        Statement::Count { name, .. }
+        | Statement::Get { name, .. }
+        | Statement::At { name, .. }
+        | Statement::Has { name, .. }
+        | Statement::Place { name, .. }
+        | Statement::Peek { name, .. } => ask(alloc, env, name.as_slice(), statement),
+        Statement::Subset { name, other, .. }
+        | Statement::Disjoint { name, other, .. }
+        | Statement::Equal { name, other, .. } => {
+            ask_both(alloc, env, name.as_slice(), other.as_slice(), statement)
+        }
+        _ => Ok(quiet(alloc, env)),
+    }
+}
+
+// What a statement that changes a value by another does.
+fn changing_by(alloc: Global, env: Environment, statement: &Statement) -> Result<Outcome, NoMemory>
+    ensures { IfOk result (λ out. out ≡ spec.changing_by env (out-Statement statement.now)) }
+{
+    match statement {
+        Statement::Extend { name, other, .. }
+        | Statement::Union { name, other, .. }
+        | Statement::SymDiff { name, other, .. }
+        | Statement::Merge { name, other, .. } => {
+            change_by(
+                alloc,
+                env,
+                name.as_slice(),
+                other.as_slice(),
+                true,
+                statement,
+            )
+        }
+        Statement::Inter { name, other, .. }
+        | Statement::Minus { name, other, .. }
+        | Statement::Within { name, other, .. } => {
+            change_by(
+                alloc,
+                env,
+                name.as_slice(),
+                other.as_slice(),
+                false,
+                statement,
+            )
+        }
+        _ => asking(alloc, env, statement),
+    }
+}
+
+// What a statement that changes values does.
+fn changing(alloc: Global, env: Environment, statement: &Statement) -> Result<Outcome, NoMemory>
+    ensures { IfOk result (λ out. out ≡ spec.changing env (out-Statement statement.now)) }
+{
+    match statement {
+        Statement::Insert { name, atom, .. }
+        | Statement::Update { name, atom, .. }
+        | Statement::Remove { name, atom, .. }
+        | Statement::Put {
+            name,
+            key: atom,
+            ..
+        } => { change_key(alloc, env, name.as_slice(), atom, statement) }
+        Statement::Append { name, .. }
+        | Statement::Prepend { name, .. }
+        | Statement::InsertAt { name, .. }
+        | Statement::RemoveAt { name, .. }
+        | Statement::Set { name, .. }
+        | Statement::Replace { name, .. }
+        | Statement::Swap { name, .. }
+        | Statement::Reverse { name, .. }
+        | Statement::Rotate { name, .. }
+        | Statement::Splice { name, .. }
+        | Statement::Reserve { name, .. }
+        | Statement::Clear { name, .. }
+        | Statement::Rebase { name, .. } => change(alloc, env, name.as_slice(), statement),
+        _ => changing_by(alloc, env, statement),
+    }
+}
+
 // What a statement does once its literals are allowed.
 fn act(
     alloc: Global,
@@ -351,64 +435,7 @@ fn act(
         Statement::Lazy { name, i, verb, .. } => {
             lazy_in(alloc, env, shapes, name.as_slice(), *i, *verb)
         }
-        Statement::Insert { name, atom, .. }
-        | Statement::Update { name, atom, .. }
-        | Statement::Remove { name, atom, .. }
-        | Statement::Put {
-            name,
-            key: atom,
-            ..
-        } => { change_key(alloc, env, name.as_slice(), atom, statement) }
-        Statement::Append { name, .. }
-        | Statement::Prepend { name, .. }
-        | Statement::InsertAt { name, .. }
-        | Statement::RemoveAt { name, .. }
-        | Statement::Set { name, .. }
-        | Statement::Replace { name, .. }
-        | Statement::Swap { name, .. }
-        | Statement::Reverse { name, .. }
-        | Statement::Rotate { name, .. }
-        | Statement::Splice { name, .. }
-        | Statement::Reserve { name, .. }
-        | Statement::Clear { name, .. }
-        | Statement::Rebase { name, .. } => change(alloc, env, name.as_slice(), statement),
-        Statement::Extend { name, other, .. }
-        | Statement::Union { name, other, .. }
-        | Statement::SymDiff { name, other, .. }
-        | Statement::Merge { name, other, .. } => {
-            change_by(
-                alloc,
-                env,
-                name.as_slice(),
-                other.as_slice(),
-                true,
-                statement,
-            )
-        }
-        Statement::Inter { name, other, .. }
-        | Statement::Minus { name, other, .. }
-        | Statement::Within { name, other, .. } => {
-            change_by(
-                alloc,
-                env,
-                name.as_slice(),
-                other.as_slice(),
-                false,
-                statement,
-            )
-        }
-        Statement::Count { name, .. }
-        | Statement::Get { name, .. }
-        | Statement::At { name, .. }
-        | Statement::Has { name, .. }
-        | Statement::Place { name, .. }
-        | Statement::Peek { name, .. } => ask(alloc, env, name.as_slice(), statement),
-        Statement::Subset { name, other, .. }
-        | Statement::Disjoint { name, other, .. }
-        | Statement::Equal { name, other, .. } => {
-            ask_both(alloc, env, name.as_slice(), other.as_slice(), statement)
-        }
-        Statement::Fork { .. } | Statement::Give { .. } => Ok(quiet(alloc, env)),
+        _ => changing(alloc, env, statement),
     }
 }
 
