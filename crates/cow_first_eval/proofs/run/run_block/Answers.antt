@@ -1,8 +1,8 @@
 use Rattle.std.proofs.Common.{drop}
 use Rattle.std.proofs.lemmas.Result.{err_from_is_err_and}
 use Rattle.cow_first.specs.Run.{text_from}
-use Rattle.cow_eval.proofs.Growth.{grows_within}
-use Rattle.cow_eval.proofs.run.run_block.Goals as goal
+use Rattle.cow_first_eval.proofs.Growth.{grows_within}
+use Rattle.cow_first_eval.proofs.run.run_block.Goals as goal
 
 pub returns-in_err-run_statement-clause-err : goal.returns-in_err-run_statement-clause-err
 returns-in_err-run_statement-clause-err c =

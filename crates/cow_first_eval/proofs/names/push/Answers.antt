@@ -1,7 +1,7 @@
 use Rattle.std.proofs.Common.{[], ◌∷◌, ◌++◌, w64}
 use Rattle.std.proofs.lemmas.Int.{to_z-of_z}
-use Rattle.cow_eval.proofs.Places.{value_there, given_there}
-use Rattle.cow_eval.proofs.names.push.Goals as goal
+use Rattle.cow_first_eval.proofs.Places.{value_there, given_there}
+use Rattle.cow_first_eval.proofs.names.push.Goals as goal
 
 pub returns : goal.returns
 returns c =

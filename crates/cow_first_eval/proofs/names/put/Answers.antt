@@ -1,6 +1,6 @@
 use Rattle.std.proofs.Common.{sym, ◌∙◌}
-use Rattle.cow_eval.proofs.Places.{given_there}
-use Rattle.cow_eval.proofs.names.put.Goals as goal
+use Rattle.cow_first_eval.proofs.Places.{given_there}
+use Rattle.cow_first_eval.proofs.names.put.Goals as goal
 
 pub returns-in-Some-clause-ok : goal.returns-in-Some-clause-ok
 returns-in-Some-clause-ok c =

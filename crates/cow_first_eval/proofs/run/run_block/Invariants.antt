@@ -1,7 +1,7 @@
 use Rattle.std.proofs.Common.{◌≡◌, ◌++◌, drop}
 use Rattle.std.specs.Io.{StartsWith}
 use Rattle.cow_first.specs.Run.{env_after, text_from}
-use Rattle.cow_eval.proofs.run.run_block.Given as goal
+use Rattle.cow_first_eval.proofs.run.run_block.Given as goal
 
 -- what the statements so far did, and what those to come would do
 abbrev pub invariant-loop-statement : goal.invariant-loop-statement
