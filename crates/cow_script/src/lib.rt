@@ -1,4 +1,32 @@
-//! Scripts.
+//! Scripts: from bytes to statements.
+//!
+//! [`parse`] reads the bytes of a script and answers its statements, or what is wrong with its first
+//! faulty line. It reads each line once, token by token, with no recursion on the input, so its time is
+//! linear in the bytes. Tokens are slices of the input: only texts, names and lists take memory.
+//!
+//! # What is promised
+//!
+//! The contract of [`parse`] is one equation. For every bytes, `Ok` has exactly the statements that
+//! `script_of` of `cow_model` gives for them, and `Fault` is exactly the fault that it gives: which of the
+//! five, at which line, with which numbers. `NoMemory` may come at any time. Nothing is kept between
+//! calls, so there is no state that could be spoiled.
+//!
+//! # How it is read
+//!
+//! The code has the shape of the definition, and each function is proved to be its part of it.
+//!
+//! - `cuts`, `tokens`: the lines of a text, the tokens of a line, the bytes that a line may have.
+//! - `integers`, `names`, `atoms`, `words`: what one token is.
+//! - `readers`, `lists`: what is due next on a line; a reader takes it or says what is wrong there.
+//! - `shapes`, `groups`, `value`, `statement`: the forms of statements.
+//! - `standing`, `line`: where a line may stand, and its tests in their order.
+//! - `script`: the loop over the lines.
+//!
+//! # What a caller may use
+//!
+//! [`parse`], [`Script`], [`ParseStop`] and [`ParseFault`]; the types of statements are those of
+//! `cow_model`. A contract above cites `script_of`, and what it says of a script holds of
+//! `script.statements`.
 #![tactic(auto)]
 
 mod atoms;

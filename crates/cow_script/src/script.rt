@@ -71,7 +71,6 @@ fn closed(reading: Reading) -> Result<Script, ParseStop>
 /// Errors: `Fault` exactly where the bytes are no script, with what is wrong with their first faulty
 /// line, or with the line of a fork that has no end; `NoMemory`. Takes time linear in the number of
 /// bytes, and memory for texts, names and lists alone.
-
 pub fn parse(alloc: Global, bytes: &[u8]) -> Result<Script, ParseStop>
     ensures { Parses (script_of bytes.now) result }
 {

@@ -2,36 +2,62 @@ use super::*;
 use std::alloc::Global;
 use std::test::*;
 
-fn stop_of(alloc: Global, script: &str) -> Option<ParseStop> {
-    parse(alloc, script.as_bytes()).err()
+// One line of each form, and a fork with a task.
+const EVERY_FORM: &[u8] = b"#cow 1
+
+# every form once
+let a = array 1 \"x \\\"y\\\"\" -2
+let b = a
+let s = slice a 0 2
+append a 3
+insert a 3
+insert a 0 3
+at a 0
+set a 0 -9223372036854775808
+pop a last
+replace a min 1
+swap a 0 1
+splice a 0 1 7 8 9
+extend a b
+put a 1 2
+merge a b take
+lazy a 0 first
+fork
+task copy a s take b
+give a as c
+end
+end
+show a";
+
+fn fault_of(alloc: Global, script: &[u8]) -> Option<ParseFault> {
+    match parse(alloc, script) {
+        Err(ParseStop::Fault(fault)) => Some(fault),
+        _ => None,
+    }
 }
 
 #[test]
-fn a_script_of_every_statement_is_read(rt: HostRuntime) -> Result<(), Fail> {
-    let text =
-        "#cow 1\n\n# all of them\nlet a = array 1 \"x y\" -2\nlet b = a\nlet s = slice a 0 2\n";
-    let script = parse(rt.alloc(), text.as_bytes()).ok().ok_or("a script")?;
-    assert_eq!(rt; script.statements.len(), 3);
+fn every_form_is_read(rt: HostRuntime) -> Result<(), Fail> {
+    let script = parse(rt.alloc(), EVERY_FORM).ok().ok_or("a script")?;
+    assert_eq!(rt; script.statements.len(), 18);
     Ok(())
 }
 
 #[test]
-fn the_first_fault_is_told(rt: HostRuntime) {
+fn the_first_faulty_line_is_told(rt: HostRuntime) {
     let alloc = rt.alloc();
+    let bad_name = Some(ParseFault::BadName { line: 1 });
+    let bad_atom = Some(ParseFault::BadAtom { line: 2 });
+    assert_eq!(rt; fault_of(alloc, b"let array = array\nend"), bad_name);
+    assert_eq!(rt; fault_of(alloc, b"\nlet a = array 01\nend"), bad_atom);
+    assert_eq!(rt; fault_of(alloc, b"\nlet a = dict 1 2 3"), bad_atom);
+}
+
+#[test]
+fn an_open_fork_is_told_by_its_line(rt: HostRuntime) {
+    let open = Some(ParseFault::ForkShape { line: 2 });
     assert_eq!(rt;
-        stop_of(alloc, "let array = array"),
-        Some(ParseStop::Fault(ParseFault::BadName { line: 1 }))
-    );
-    assert_eq!(rt;
-        stop_of(alloc, "let a = array 01"),
-        Some(ParseStop::Fault(ParseFault::BadAtom { line: 1 }))
-    );
-    assert_eq!(rt;
-        stop_of(alloc, "let a = array 1\nfork"),
-        Some(ParseStop::Fault(ParseFault::ForkShape { line: 2 }))
-    );
-    assert_eq!(rt;
-        stop_of(alloc, "let a = array \"x\" \\"),
-        Some(ParseStop::Fault(ParseFault::BadAtom { line: 1 }))
+        fault_of(rt.alloc(), b"let a = array 1\nfork\ntask\n"),
+        open
     );
 }
