@@ -50,4 +50,6 @@ pub use cow_model::ParseFault;
 pub use script::{ParseStop, Script, parse};
 
 #[cfg(test)]
+mod odd_lines;
+#[cfg(test)]
 mod tests;
