@@ -36,6 +36,7 @@ mod integers;
 mod line;
 mod lists;
 mod names;
+mod printed;
 mod readers;
 mod script;
 mod shapes;
@@ -47,6 +48,7 @@ mod value;
 mod words;
 
 pub use cow_model::ParseFault;
+pub use printed::{put_atom, put_list, put_pairs};
 pub use script::{ParseStop, Script, parse};
 
 #[cfg(test)]
