@@ -3,5 +3,7 @@ pub mod CaptureLists
 pub mod Contents
 pub mod CutTexts
 pub mod Digits
+pub mod Escapes
+pub mod Fronts
 pub mod LinesRead
 pub mod TokenTexts

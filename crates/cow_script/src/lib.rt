@@ -1,4 +1,4 @@
-//! Scripts: from bytes to statements.
+//! Scripts: from bytes to statements, and the printed forms of atoms, lists and pairs.
 //!
 //! [`parse`] reads the bytes of a script and answers its statements, or what is wrong with its first
 //! faulty line. It reads each line once, token by token, with no recursion on the input, so its time is
@@ -11,6 +11,9 @@
 //! five, at which line, with which numbers. `NoMemory` may come at any time. Nothing is kept between
 //! calls, so there is no state that could be spoiled.
 //!
+//! [`put_atom`], [`put_list`] and [`put_pairs`] append to a text exactly what `Printed` of `cow_model`
+//! says of the plain values, whole; refused, they leave the text as it was.
+//!
 //! # How it is read
 //!
 //! The code has the shape of the definition, and each function is proved to be its part of it.
@@ -21,12 +24,20 @@
 //! - `shapes`, `groups`, `value`, `statement`: the forms of statements.
 //! - `standing`, `line`: where a line may stand, and its tests in their order.
 //! - `script`: the loop over the lines.
+//! - `printed`: the printed forms.
 //!
 //! # What a caller may use
 //!
 //! [`parse`], [`Script`], [`ParseStop`] and [`ParseFault`]; the types of statements are those of
 //! `cow_model`. A contract above cites `script_of`, and what it says of a script holds of
-//! `script.statements`.
+//! `script.statements`. One that prints cites `Printed` of `cow_model`, and `plain_of` and `pair_of` of
+//! `specs/Shown.antt`.
+//!
+//! # What the contracts leave open
+//!
+//! - A call that may answer `NoMemory`, such as [`parse`] or [`put_list`], may always do so. Tests show
+//!   that each of the public ones succeeds.
+//! - No clause says how many steps a call takes, or that it takes no more memory than is told here.
 #![tactic(auto)]
 
 mod atoms;
@@ -36,6 +47,7 @@ mod integers;
 mod line;
 mod lists;
 mod names;
+mod printed;
 mod readers;
 mod script;
 mod shapes;
@@ -47,6 +59,7 @@ mod value;
 mod words;
 
 pub use cow_model::ParseFault;
+pub use printed::{put_atom, put_list, put_pairs};
 pub use script::{ParseStop, Script, parse};
 
 #[cfg(test)]
