@@ -1,6 +1,7 @@
 // Statements of one line.
 ghost use Rattle.std.specs.Prelude.{◌≡◌, nat_le, length};
 ghost use Rattle.cow_model.specs.Forms as spec;
+ghost use Rattle.cow_model.specs.declared.statement.Statement.TheVariants as a_statement;
 ghost use Rattle.cow_script.specs.Reads.{Reads};
 
 use crate::groups::{on_atom, on_name, on_other, on_place, on_side};
@@ -13,7 +14,7 @@ use crate::shapes::{
 use crate::stop::Stop;
 use crate::tokens::Tokens;
 use crate::value::assignment;
-use cow_model::{Form, Statement};
+use cow_model::{Form, Literal, Name, Side, Statement};
 use std::alloc::Global;
 
 // `splice N I J A*`
@@ -115,6 +116,45 @@ fn insert(alloc: Global, line: u64, tokens: &mut Tokens<'_>) -> Result<Statement
     }
 }
 
+// `set N I A`
+fn set(line: u64, parts: (Name, i64, Literal)) -> Statement
+    ensures { result ≡ a_statement.Set line parts.0 parts.1 parts.2 }
+{
+    let (name, i, atom) = parts;
+    Statement::Set {
+        line,
+        name,
+        i,
+        atom,
+    }
+}
+
+// `replace N S A`
+fn replace(line: u64, parts: (Name, Side, Literal)) -> Statement
+    ensures { result ≡ a_statement.Replace line parts.0 parts.1 parts.2 }
+{
+    let (name, side, atom) = parts;
+    Statement::Replace {
+        line,
+        name,
+        side,
+        atom,
+    }
+}
+
+// `put N K V`
+fn put(line: u64, parts: (Name, Literal, Literal)) -> Statement
+    ensures { result ≡ a_statement.Put line parts.0 parts.1 parts.2 }
+{
+    let (name, key, value) = parts;
+    Statement::Put {
+        line,
+        name,
+        key,
+        value,
+    }
+}
+
 /// The statement that the tokens behind a first word are.
 #[tactic(auto, unfolding(cow_model::specs::Forms::statement_of))]
 pub fn statement(
@@ -145,38 +185,14 @@ pub fn statement(
             Ok(on_other(line, word, name, other))
         }
         Form::Insert => insert(alloc, line, tokens),
-        Form::Set => {
-            let (name, i, atom) = name_place_atom(alloc, tokens)?;
-            Ok(Statement::Set {
-                line,
-                name,
-                i,
-                atom,
-            })
-        }
-        Form::Replace => {
-            let (name, side, atom) = name_side_atom(alloc, tokens)?;
-            Ok(Statement::Replace {
-                line,
-                name,
-                side,
-                atom,
-            })
-        }
+        Form::Set => Ok(set(line, name_place_atom(alloc, tokens)?)),
+        Form::Replace => Ok(replace(line, name_side_atom(alloc, tokens)?)),
         Form::Swap => {
             let (name, i, j) = name_places(alloc, tokens)?;
             Ok(Statement::Swap { line, name, i, j })
         }
         Form::Splice => splice(alloc, line, tokens),
-        Form::Put => {
-            let (name, key, value) = name_atoms(alloc, tokens)?;
-            Ok(Statement::Put {
-                line,
-                name,
-                key,
-                value,
-            })
-        }
+        Form::Put => Ok(put(line, name_atoms(alloc, tokens)?)),
         Form::Merge => merge(alloc, line, tokens),
         Form::Lazy => lazy(alloc, line, tokens),
         Form::Give => give(alloc, line, tokens),
