@@ -1,0 +1,38 @@
+-- What contracts see of a value of a flat kind.
+use Rattle.std.specs.Prelude.{◌≡◌, ℕ, ◌+◌, ◌*◌, ◌≤◌, ◌⊎◌, Bool, true, List, length, count_by}
+use Rattle.cow_model.specs.Flat.{Flat, copies}
+use Rattle.cow_model.specs.Purse.{Purse, Moves}
+use Rattle.cow_model.specs.Plain.{count, size}
+use Rattle.cow_model.specs.declared.plain.Literal.{Literal}
+use Rattle.cow_model.specs.declared.value.Plain.{Plain}
+use Rattle.cow_model.specs.declared.value.Plain.TheVariants as plain
+use Rattle.cow_array.specs.Slice.{Slice}
+
+-- its plain value; whether it is known that no other handle holds its storage; and the units of all items in that, shown or not
+pub record Seen : Type 0 where
+  pub value : Plain
+  pub alone : Bool
+  pub units : ℕ
+
+-- an array
+abbrev pub array : (Literal → Bool) → Flat (List Literal) → Seen
+array is_counted a = record { value = plain.Array a.value; alone = a.alone; units = count_by is_counted a.value }
+
+-- a slice
+abbrev pub slice : Flat Slice → Seen
+slice s = record { value = plain.Slice s.value.start s.value.items; alone = s.alone; units = s.value.units }
+
+-- the index behind the last element
+abbrev pub stop : Plain → ℕ
+stop (plain.Slice start items) = start + length items
+stop value = count value
+
+-- a value that was alone is alone, and one that differs from before is, too
+pub record StaysAlone (before after : Seen) : Type 0 where
+  pub kept : before.alone ≡ true → after.alone ≡ true
+  pub changed : (after.value ≡ before.value) ⊎ (after.alone ≡ true)
+
+-- what a change of `before` costs that brings in n more elements of so many units: copied rises by no more than those and, where the value isn't alone, its size; spare moves by no more than the units involved, of which each may come and go, and falls by no more than there are elements
+pub record Costs (units n : ℕ) (before : Seen) (h h' : Purse) : Type 0 where
+  pub moved : Moves (2 * before.units + units) (copies before.alone (size before.value) + n) h h'
+  pub falls : h.spare ≤ h'.spare + (count before.value + n)

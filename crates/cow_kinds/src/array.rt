@@ -1,0 +1,201 @@
+// The statements on arrays, each as its definition says. A refused one changes nothing and makes no
+// element.
+ghost use Rattle.std.specs.Prelude.{◌≡◌, ◌+◌, ◌*◌, ◌≤◌, [], ◌∷◌, ◌++◌, length, count_by, slice_get, IfOk, OnOk, OnErr};
+ghost use Rattle.cow_model.specs.Flat.{need};
+ghost use Rattle.cow_model.specs.Literals.{FitsText};
+ghost use Rattle.cow_model.specs.Operation as spec;
+ghost use Rattle.cow_model.specs.Operation.{fitting};
+ghost use Rattle.cow_model.specs.Plain.{max_count};
+ghost use Rattle.cow_model.specs.declared.value.Plain.TheVariants as plain;
+ghost use Rattle.cow_kinds.specs.Answers.{verdict, value_after, reply_of};
+ghost use Rattle.cow_kinds.specs.Seen.{array, StaysAlone, Costs};
+
+use crate::element::Element;
+use crate::positions::{MAX_COUNT, index, index_to_end};
+use cow_array::Array;
+use cow_cell::{Holder, Stock};
+use cow_item::Item;
+use cow_model::{Literal, NoMemory, Refusal};
+use std::alloc::Global;
+
+/// `append N A`
+pub fn append<T: Element<Q>, Q: Stock>(
+    a: &mut Array<T, Q>,
+    alloc: Global,
+    atom: &Literal,
+    h: &mut Holder<Q>,
+) -> Result<Result<(), Refusal>, NoMemory>
+    requires length { FitsText atom.now }
+    requires small { length a.old.value ≤ max_count }
+    requires spare { need (2 * (length a.old.value + 1) + 1) ≤ h.old.spare }
+    ensures answer { IfOk result (λ r. r ≡ verdict (fitting (spec.append atom.now (plain.Array a.old.value)))) }
+    ensures value { OnOk result (plain.Array a.new.value ≡ value_after (plain.Array a.old.value) (fitting (spec.append atom.now (plain.Array a.old.value)))) }
+    ensures silent { reply_of (fitting (spec.append atom.now (plain.Array a.old.value))) ≡ [] }
+    ensures refused { OnErr result (a.new.value ≡ a.old.value) }
+    ensures alone { StaysAlone (array T.is_counted a.old) (array T.is_counted a.new) }
+    ensures paid { Costs (count_by T.is_counted (atom.now ∷ [])) (1) (array T.is_counted a.old) h.old h.new }
+{
+    if a.count() >= MAX_COUNT {
+        return Ok(Err(Refusal::Full));
+    }
+    let x = T::read(alloc, atom, h)?;
+    match a.append(x, h) {
+        Ok(()) => Ok(Ok(())),
+        Err((refused, x)) => {
+            x.end(h);
+            Err(refused)
+        }
+    }
+}
+
+/// `insert N I A`
+pub fn insert_at<T: Element<Q>, Q: Stock>(
+    a: &mut Array<T, Q>,
+    alloc: Global,
+    i: i64,
+    atom: &Literal,
+    h: &mut Holder<Q>,
+) -> Result<Result<(), Refusal>, NoMemory>
+    requires length { FitsText atom.now }
+    requires small { length a.old.value ≤ max_count }
+    requires spare { need (2 * (length a.old.value + 1) + 1) ≤ h.old.spare }
+    ensures answer { IfOk result (λ r. r ≡ verdict (fitting (spec.insert_at i atom.now (plain.Array a.old.value)))) }
+    ensures value { OnOk result (plain.Array a.new.value ≡ value_after (plain.Array a.old.value) (fitting (spec.insert_at i atom.now (plain.Array a.old.value)))) }
+    ensures silent { reply_of (fitting (spec.insert_at i atom.now (plain.Array a.old.value))) ≡ [] }
+    ensures refused { OnErr result (a.new.value ≡ a.old.value) }
+    ensures alone { StaysAlone (array T.is_counted a.old) (array T.is_counted a.new) }
+    ensures paid { Costs (count_by T.is_counted (atom.now ∷ [])) (1) (array T.is_counted a.old) h.old h.new }
+{
+    let Some(place) = index_to_end(a.count(), i) else {
+        return Ok(Err(Refusal::OutOfRange));
+    };
+    if a.count() >= MAX_COUNT {
+        return Ok(Err(Refusal::Full));
+    }
+    let x = T::read(alloc, atom, h)?;
+    match a.insert(place, x, h) {
+        Ok(()) => Ok(Ok(())),
+        Err((refused, x)) => {
+            x.end(h);
+            Err(refused)
+        }
+    }
+}
+
+/// `set N I A`
+pub fn set<T: Element<Q>, Q: Stock>(
+    a: &mut Array<T, Q>,
+    alloc: Global,
+    i: i64,
+    atom: &Literal,
+    h: &mut Holder<Q>,
+) -> Result<Result<(), Refusal>, NoMemory>
+    requires length { FitsText atom.now }
+    requires small { length a.old.value ≤ max_count }
+    requires spare { need (2 * (length a.old.value + 1) + 1) ≤ h.old.spare }
+    ensures answer { IfOk result (λ r. r ≡ verdict (fitting (spec.set i atom.now (plain.Array a.old.value)))) }
+    ensures value { OnOk result (plain.Array a.new.value ≡ value_after (plain.Array a.old.value) (fitting (spec.set i atom.now (plain.Array a.old.value)))) }
+    ensures silent { reply_of (fitting (spec.set i atom.now (plain.Array a.old.value))) ≡ [] }
+    ensures refused { OnErr result (a.new.value ≡ a.old.value) }
+    ensures alone { StaysAlone (array T.is_counted a.old) (array T.is_counted a.new) }
+    ensures paid { Costs (count_by T.is_counted (atom.now ∷ [])) (1) (array T.is_counted a.old) h.old h.new }
+{
+    let Some(place) = index(0, a.count(), i) else {
+        return Ok(Err(Refusal::OutOfRange));
+    };
+    let x = T::read(alloc, atom, h)?;
+    match a.set(place, x, h) {
+        Ok(old) => {
+            old.end(h);
+            Ok(Ok(()))
+        }
+        Err((refused, x)) => {
+            x.end(h);
+            Err(refused)
+        }
+    }
+}
+
+/// `swap N I J`
+pub fn swap<T: Element<Q>, Q: Stock>(
+    a: &mut Array<T, Q>,
+    i: i64,
+    j: i64,
+    h: &mut Holder<Q>,
+) -> Result<Result<(), Refusal>, NoMemory>
+    requires small { length a.old.value ≤ max_count }
+    requires spare { need (2 * (length a.old.value + 0) + 1) ≤ h.old.spare }
+    ensures answer { IfOk result (λ r. r ≡ verdict (fitting (spec.swap i j (plain.Array a.old.value)))) }
+    ensures value { OnOk result (plain.Array a.new.value ≡ value_after (plain.Array a.old.value) (fitting (spec.swap i j (plain.Array a.old.value)))) }
+    ensures silent { reply_of (fitting (spec.swap i j (plain.Array a.old.value))) ≡ [] }
+    ensures refused { OnErr result (a.new.value ≡ a.old.value) }
+    ensures alone { StaysAlone (array T.is_counted a.old) (array T.is_counted a.new) }
+    ensures paid { Costs (0) (0) (array T.is_counted a.old) h.old h.new }
+{
+    let Some(first) = index(0, a.count(), i) else {
+        return Ok(Err(Refusal::OutOfRange));
+    };
+    let Some(second) = index(0, a.count(), j) else {
+        return Ok(Err(Refusal::OutOfRange));
+    };
+    a.swap_at(first, second, h)?;
+    Ok(Ok(()))
+}
+
+/// `reverse N`
+pub fn reverse<T: Element<Q>, Q: Stock>(
+    a: &mut Array<T, Q>,
+    h: &mut Holder<Q>,
+) -> Result<Result<(), Refusal>, NoMemory>
+    requires small { length a.old.value ≤ max_count }
+    requires spare { need (2 * (length a.old.value + 0) + 1) ≤ h.old.spare }
+    ensures answer { IfOk result (λ r. r ≡ verdict (fitting (spec.reversed (plain.Array a.old.value)))) }
+    ensures value { OnOk result (plain.Array a.new.value ≡ value_after (plain.Array a.old.value) (fitting (spec.reversed (plain.Array a.old.value)))) }
+    ensures silent { reply_of (fitting (spec.reversed (plain.Array a.old.value))) ≡ [] }
+    ensures refused { OnErr result (a.new.value ≡ a.old.value) }
+    ensures alone { StaysAlone (array T.is_counted a.old) (array T.is_counted a.new) }
+    ensures paid { Costs (0) (0) (array T.is_counted a.old) h.old h.new }
+{
+    a.reverse(h)?;
+    Ok(Ok(()))
+}
+
+/// `reserve N C`: room for C more elements.
+pub fn reserve<T: Element<Q>, Q: Stock>(
+    a: &mut Array<T, Q>,
+    c: i64,
+    h: &mut Holder<Q>,
+) -> Result<Result<(), Refusal>, NoMemory>
+    requires small { length a.old.value ≤ max_count }
+    requires spare { need (2 * (length a.old.value + 0) + 1) ≤ h.old.spare }
+    ensures answer { IfOk result (λ r. r ≡ verdict (fitting (spec.reserve c (plain.Array a.old.value)))) }
+    ensures value { OnOk result (plain.Array a.new.value ≡ value_after (plain.Array a.old.value) (fitting (spec.reserve c (plain.Array a.old.value)))) }
+    ensures silent { reply_of (fitting (spec.reserve c (plain.Array a.old.value))) ≡ [] }
+    ensures refused { OnErr result (a.new.value ≡ a.old.value) }
+    ensures alone { StaysAlone (array T.is_counted a.old) (array T.is_counted a.new) }
+    ensures paid { Costs (0) (0) (array T.is_counted a.old) h.old h.new }
+{
+    let Some(more) = index_to_end(MAX_COUNT, c) else {
+        return Ok(Err(Refusal::OutOfRange));
+    };
+    a.reserve(more, h)?;
+    Ok(Ok(()))
+}
+
+/// `clear N`
+pub fn clear<T: Element<Q>, Q: Stock>(
+    a: &mut Array<T, Q>,
+    h: &mut Holder<Q>,
+) -> Result<Result<(), Refusal>, NoMemory>
+    requires small { length a.old.value ≤ max_count }
+    requires spare { need (2 * (length a.old.value + 0) + 1) ≤ h.old.spare }
+    ensures answer { IfOk result (λ r. r ≡ verdict (fitting (spec.clear (plain.Array a.old.value)))) }
+    ensures value { OnOk result (plain.Array a.new.value ≡ value_after (plain.Array a.old.value) (fitting (spec.clear (plain.Array a.old.value)))) }
+    ensures silent { reply_of (fitting (spec.clear (plain.Array a.old.value))) ≡ [] }
+    ensures refused { OnErr result (a.new.value ≡ a.old.value) }
+    ensures alone { StaysAlone (array T.is_counted a.old) (array T.is_counted a.new) }
+    ensures paid { Costs (0) (0) (array T.is_counted a.old) h.old h.new }
+{
+    a.clear(h)?;
+    Ok(Ok(()))
+}

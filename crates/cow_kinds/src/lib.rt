@@ -1,0 +1,11 @@
+//! What one statement of the language does to one value of a flat kind, over counted storage.
+#![tactic(auto)]
+
+mod array;
+mod element;
+mod lines;
+mod listed;
+mod positions;
+mod reading;
+
+pub use element::Element;
