@@ -1,6 +1,6 @@
 // The statements on arrays, each as its definition says. A refused one changes nothing and makes no
 // element.
-ghost use Rattle.std.specs.Prelude.{◌≡◌, ◌+◌, ◌*◌, ◌≤◌, [], ◌∷◌, ◌++◌, length, count_by, slice_get, IfOk, OnOk, OnErr};
+ghost use Rattle.std.specs.Prelude.{◌≡◌, ◌+◌, ◌*◌, ◌≤◌, [], ◌∷◌, ◌++◌, length, count_by, slice_get, All, IfOk, OnOk, OnErr};
 ghost use Rattle.cow_model.specs.Flat.{need};
 ghost use Rattle.cow_model.specs.Literals.{FitsText};
 ghost use Rattle.cow_model.specs.Operation as spec;
@@ -11,11 +11,14 @@ ghost use Rattle.cow_kinds.specs.Answers.{verdict, value_after, reply_of};
 ghost use Rattle.cow_kinds.specs.Seen.{array, StaysAlone, Costs};
 
 use crate::element::Element;
-use crate::positions::{MAX_COUNT, index, index_to_end};
+use crate::lines::put_element_at;
+use crate::listed::Listed;
+use crate::positions::{MAX_COUNT, index, index_to_end, stretch};
+use crate::reading::{end_all, read_all};
 use cow_array::Array;
 use cow_cell::{Holder, Stock};
 use cow_item::Item;
-use cow_model::{Literal, NoMemory, Refusal};
+use cow_model::{Literal, NoMemory, Refusal, Side};
 use std::alloc::Global;
 
 /// `append N A`
@@ -198,4 +201,144 @@ pub fn clear<T: Element<Q>, Q: Stock>(
 {
     a.clear(h)?;
     Ok(Ok(()))
+}
+
+/// `remove N X`
+pub fn remove<T: Element<Q>, Q: Stock>(
+    a: &mut Array<T, Q>,
+    x: &Literal,
+    text: &mut Vec<u8>,
+    h: &mut Holder<Q>,
+) -> Result<Result<(), Refusal>, NoMemory>
+    requires small { length a.old.value ≤ max_count }
+    requires spare { need (2 * (length a.old.value + 1) + 1) ≤ h.old.spare }
+    ensures answer { IfOk result (λ r. r ≡ verdict (fitting (spec.remove x.now (plain.Array a.old.value)))) }
+    ensures value { OnOk result (plain.Array a.new.value ≡ value_after (plain.Array a.old.value) (fitting (spec.remove x.now (plain.Array a.old.value)))) }
+    ensures reply { OnOk result (text.new.items ≡ text.old.items ++ reply_of (fitting (spec.remove x.now (plain.Array a.old.value)))) }
+    ensures refused { OnErr result ((a.new.value ≡ a.old.value) × (text.new.items ≡ text.old.items)) }
+    ensures alone { StaysAlone (array T.is_counted a.old) (array T.is_counted a.new) }
+    ensures paid { Costs (count_by T.is_counted (x.now ∷ [])) (1) (array T.is_counted a.old) h.old h.new }
+{
+    let Literal::Int(i) = x else {
+        return Ok(Err(Refusal::WrongKind));
+    };
+    let Some(place) = index(0, a.count(), *i) else {
+        return Ok(Err(Refusal::OutOfRange));
+    };
+    let before = text.len();
+    put_element_at(a, place, text)?;
+    match a.remove(place, h) {
+        Ok(old) => {
+            old.end(h);
+            Ok(Ok(()))
+        }
+        Err(refused) => {
+            text.truncate(before);
+            Err(refused)
+        }
+    }
+}
+
+/// `pop N END`
+pub fn pop<T: Element<Q>, Q: Stock>(
+    a: &mut Array<T, Q>,
+    side: Side,
+    text: &mut Vec<u8>,
+    h: &mut Holder<Q>,
+) -> Result<Result<(), Refusal>, NoMemory>
+    requires small { length a.old.value ≤ max_count }
+    requires spare { need (2 * (length a.old.value + 0) + 1) ≤ h.old.spare }
+    ensures answer { IfOk result (λ r. r ≡ verdict (fitting (spec.pop side (plain.Array a.old.value)))) }
+    ensures value { OnOk result (plain.Array a.new.value ≡ value_after (plain.Array a.old.value) (fitting (spec.pop side (plain.Array a.old.value)))) }
+    ensures reply { OnOk result (text.new.items ≡ text.old.items ++ reply_of (fitting (spec.pop side (plain.Array a.old.value)))) }
+    ensures refused { OnErr result ((a.new.value ≡ a.old.value) × (text.new.items ≡ text.old.items)) }
+    ensures alone { StaysAlone (array T.is_counted a.old) (array T.is_counted a.new) }
+    ensures paid { Costs (0) (0) (array T.is_counted a.old) h.old h.new }
+{
+    let Side::Last = side else {
+        return Ok(Err(Refusal::WrongKind));
+    };
+    let before = text.len();
+    put_element_at(a, a.count().saturating_sub(1), text)?;
+    match a.pop_last(h) {
+        Ok(None) => Ok(Ok(())),
+        Ok(Some(old)) => {
+            old.end(h);
+            Ok(Ok(()))
+        }
+        Err(refused) => {
+            text.truncate(before);
+            Err(refused)
+        }
+    }
+}
+
+/// `splice N I J A*`
+pub fn splice<T: Element<Q>, Q: Stock>(
+    a: &mut Array<T, Q>,
+    alloc: Global,
+    i: i64,
+    j: i64,
+    atoms: &[Literal],
+    h: &mut Holder<Q>,
+) -> Result<Result<(), Refusal>, NoMemory>
+    requires texts { All FitsText atoms.now }
+    requires small { length a.old.value ≤ max_count }
+    requires spare { need (2 * (length a.old.value + length atoms.now) + 1) ≤ h.old.spare }
+    ensures answer { IfOk result (λ r. r ≡ verdict (fitting (spec.splice i j atoms.now (plain.Array a.old.value)))) }
+    ensures value { OnOk result (plain.Array a.new.value ≡ value_after (plain.Array a.old.value) (fitting (spec.splice i j atoms.now (plain.Array a.old.value)))) }
+    ensures silent { reply_of (fitting (spec.splice i j atoms.now (plain.Array a.old.value))) ≡ [] }
+    ensures refused { OnErr result (a.new.value ≡ a.old.value) }
+    ensures alone { StaysAlone (array T.is_counted a.old) (array T.is_counted a.new) }
+    ensures paid { Costs (count_by T.is_counted atoms.now) (length atoms.now) (array T.is_counted a.old) h.old h.new }
+{
+    let Some((from, to)) = stretch(a.count(), i, j) else {
+        return Ok(Err(Refusal::OutOfRange));
+    };
+    if atoms.len() > MAX_COUNT - (a.count() - (to - from)) {
+        return Ok(Err(Refusal::Full));
+    }
+    let items = read_all(alloc, atoms, h)?;
+    match a.replace(from, to, items, h) {
+        Ok(()) => Ok(Ok(())),
+        Err((refused, items)) => {
+            end_all(items, h);
+            Err(refused)
+        }
+    }
+}
+
+/// `extend N M`
+pub fn extend<T: Element<Q>, Q: Stock>(
+    a: &mut Array<T, Q>,
+    other: &Array<T, Q>,
+    h: &mut Holder<Q>,
+) -> Result<Result<(), Refusal>, NoMemory>
+    requires other_small { length other.now.value ≤ max_count }
+    requires small { length a.old.value ≤ max_count }
+    requires spare { need (2 * (length a.old.value + length other.now.value) + 1) ≤ h.old.spare }
+    ensures answer { IfOk result (λ r. r ≡ verdict (fitting (spec.extend (plain.Array a.old.value) (plain.Array other.now.value)))) }
+    ensures value { OnOk result (plain.Array a.new.value ≡ value_after (plain.Array a.old.value) (fitting (spec.extend (plain.Array a.old.value) (plain.Array other.now.value)))) }
+    ensures silent { reply_of (fitting (spec.extend (plain.Array a.old.value) (plain.Array other.now.value))) ≡ [] }
+    ensures refused { OnErr result (a.new.value ≡ a.old.value) }
+    ensures alone { StaysAlone (array T.is_counted a.old) (array T.is_counted a.new) }
+    ensures paid { Costs (count_by T.is_counted other.now.value) (length other.now.value) (array T.is_counted a.old) h.old h.new }
+{
+    if other.count() > MAX_COUNT - a.count() {
+        return Ok(Err(Refusal::Full));
+    }
+    a.extend(other, h)?;
+    Ok(Ok(()))
+}
+
+impl<T: Element<Q>, Q: Stock> Listed<T, Q> for Array<T, Q> {
+    ghost elements = { λ a. a.value };
+
+    fn size(&self) -> usize {
+        self.count()
+    }
+
+    fn at(&self, place: usize) -> Option<&T> {
+        self.get(place)
+    }
 }

@@ -39,3 +39,47 @@ fn read_one<T: Element<Q>, Q: Stock>(
     }
     Ok(())
 }
+
+// The elements of the literals, in order. Want of memory leaves some of them.
+fn read_into<T: Element<Q>, Q: Stock>(
+    alloc: Global,
+    literals: &[Literal],
+    items: &mut Vec<T>,
+    h: &mut Holder<Q>,
+) -> Result<(), NoMemory>
+    requires texts { All FitsText literals.now }
+    requires spare { length literals.now ≤ h.old.spare }
+    requires empty { items.old.items ≡ [] }
+    ensures ok { OnOk result (map T.plain items.new.items ≡ literals.now) }
+    ensures spent { OnOk result (h.new ≡ noted (length literals.now) (less (count_by T.is_counted literals.now) h.old)) }
+    ensures units { h.new.spare + count_by T.is_counted (map T.plain items.new.items) ≡ h.old.spare }
+    ensures copied { h.new.copied ≤ h.old.copied + length literals.now }
+    ensures kept { h.old.copied ≤ h.new.copied }
+{
+    for literal in literals {
+        read_one(alloc, literal, items, h)?;
+    }
+    Ok(())
+}
+
+/// The elements of the literals, in order. Each counts one copy; want of memory gives their units back.
+pub fn read_all<T: Element<Q>, Q: Stock>(
+    alloc: Global,
+    literals: &[Literal],
+    h: &mut Holder<Q>,
+) -> Result<Vec<T>, NoMemory>
+    requires texts { All FitsText literals.now }
+    requires spare { length literals.now ≤ h.old.spare }
+    ensures ok { IfOk result (λ items. map T.plain items.items ≡ literals.now) }
+    ensures spent { OnOk result (h.new ≡ noted (length literals.now) (less (count_by T.is_counted literals.now) h.old)) }
+    ensures refused { OnErr result (Moves 0 (length literals.now) h.old h.new) }
+{
+    let mut items = Vec::new(alloc);
+    match read_into(alloc, literals, &mut items, h) {
+        Ok(()) => Ok(items),
+        Err(refused) => {
+            end_all(items, h);
+            Err(refused)
+        }
+    }
+}
