@@ -1,5 +1,5 @@
 -- What contracts see of a value of a flat kind.
-use Rattle.std.specs.Prelude.{◌≡◌, ℕ, ◌+◌, ◌*◌, ◌≤◌, ◌⊎◌, Bool, true, List, length, count_by}
+use Rattle.std.specs.Prelude.{◌≡◌, ℕ, ◌+◌, ◌*◌, ◌≤◌, ◌⊎◌, Bool, true, false, List, length, count_by}
 use Rattle.cow_model.specs.Flat.{Flat, copies}
 use Rattle.cow_model.specs.Purse.{Purse, Moves}
 use Rattle.cow_model.specs.Plain.{count, size}
@@ -8,7 +8,7 @@ use Rattle.cow_model.specs.declared.value.Plain.{Plain}
 use Rattle.cow_model.specs.declared.value.Plain.TheVariants as plain
 use Rattle.cow_array.specs.Slice.{Slice}
 
--- its plain value; whether it is known that no other handle holds its storage; and the units of all items in that, shown or not
+-- its plain value; whether it is known that no other handle holds its storage; and the units that a change of it may move: those of all items in the storage and, of a slice, once more those that it shows
 pub record Seen : Type 0 where
   pub value : Plain
   pub alone : Bool
@@ -19,8 +19,12 @@ abbrev pub array : (Literal → Bool) → Flat (List Literal) → Seen
 array is_counted a = record { value = plain.Array a.value; alone = a.alone; units = count_by is_counted a.value }
 
 -- a slice
-abbrev pub slice : Flat Slice → Seen
-slice s = record { value = plain.Slice s.value.start s.value.items; alone = s.alone; units = s.value.units }
+abbrev pub slice : (Literal → Bool) → Flat Slice → Seen
+slice is_counted s = record { value = plain.Slice s.value.start s.value.items; alone = s.alone; units = s.value.units + count_by is_counted s.value.items }
+
+-- the same in a handle that isn't alone
+abbrev pub shared : Seen → Seen
+shared before = record before { alone = false }
 
 -- the index behind the last element
 abbrev pub stop : Plain → ℕ
@@ -36,3 +40,18 @@ pub record StaysAlone (before after : Seen) : Type 0 where
 pub record Costs (units n : ℕ) (before : Seen) (h h' : Purse) : Type 0 where
   pub moved : Moves (2 * before.units + units) (copies before.alone (size before.value) + n) h h'
   pub falls : h.spare ≤ h'.spare + (count before.value + n)
+
+-- the most copies of a `pop` where the value isn't alone: the first element of a slice goes without a change of its storage
+abbrev pub pop_size : Plain → ℕ
+pop_size (plain.Slice start items) = 1
+pop_size value = size value
+
+-- what a `pop` costs
+pub record PopCosts (before : Seen) (h h' : Purse) : Type 0 where
+  pub moved : Moves (2 * before.units) (copies before.alone (pop_size before.value)) h h'
+  pub falls : h.spare ≤ h'.spare + count before.value
+
+-- a `pop` keeps a value alone and, but for a slice, makes one alone that it changes
+abbrev pub pop_alone : Plain → Seen → Seen → Type 0
+pop_alone (plain.Slice start items) before after = before.alone ≡ true → after.alone ≡ true
+pop_alone value before after = StaysAlone before after

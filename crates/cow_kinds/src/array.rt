@@ -1,17 +1,19 @@
 // The statements on arrays, each as its definition says. A refused one changes nothing and makes no
 // element.
 ghost use Rattle.std.specs.Prelude.{◌≡◌, ◌+◌, ◌*◌, ◌≤◌, [], ◌∷◌, ◌++◌, length, count_by, slice_get, All, IfOk, OnOk, OnErr};
-ghost use Rattle.cow_model.specs.Flat.{need};
+ghost use Rattle.cow_model.specs.Flat.{need, Becomes};
 ghost use Rattle.cow_model.specs.Literals.{FitsText};
 ghost use Rattle.cow_model.specs.Operation as spec;
 ghost use Rattle.cow_model.specs.Operation.{fitting};
-ghost use Rattle.cow_model.specs.Plain.{max_count};
+ghost use Rattle.cow_model.specs.Plain.{max_count, same_items};
+ghost use Rattle.cow_model.specs.Printed.{line, truth};
+ghost use Rattle.cow_model.specs.Purse.{Moves, less, noted};
 ghost use Rattle.cow_model.specs.declared.value.Plain.TheVariants as plain;
 ghost use Rattle.cow_kinds.specs.Answers.{verdict, value_after, reply_of};
-ghost use Rattle.cow_kinds.specs.Seen.{array, StaysAlone, Costs};
+ghost use Rattle.cow_kinds.specs.Seen.{array, StaysAlone, Costs, PopCosts};
 
 use crate::element::Element;
-use crate::lines::put_element_at;
+use crate::lines::{put_element_at, put_truth};
 use crate::listed::Listed;
 use crate::positions::{MAX_COUNT, index, index_to_end, stretch};
 use crate::reading::{end_all, read_all};
@@ -253,7 +255,7 @@ pub fn pop<T: Element<Q>, Q: Stock>(
     ensures reply { OnOk result (text.new.items ≡ text.old.items ++ reply_of (fitting (spec.pop side (plain.Array a.old.value)))) }
     ensures refused { OnErr result ((a.new.value ≡ a.old.value) × (text.new.items ≡ text.old.items)) }
     ensures alone { StaysAlone (array T.is_counted a.old) (array T.is_counted a.new) }
-    ensures paid { Costs (0) (0) (array T.is_counted a.old) h.old h.new }
+    ensures paid { PopCosts (array T.is_counted a.old) h.old h.new }
 {
     let Side::Last = side else {
         return Ok(Err(Refusal::WrongKind));
@@ -329,6 +331,44 @@ pub fn extend<T: Element<Q>, Q: Stock>(
     }
     a.extend(other, h)?;
     Ok(Ok(()))
+}
+
+/// `let N = array A*`. Each atom counts one copy.
+pub fn make<T: Element<Q>, Q: Stock>(
+    alloc: Global,
+    atoms: &[Literal],
+    h: &mut Holder<Q>,
+) -> Result<Array<T, Q>, NoMemory>
+    requires texts { All FitsText atoms.now }
+    requires small { length atoms.now ≤ max_count }
+    requires spare { length atoms.now + 1 ≤ h.old.spare }
+    ensures ok { IfOk result (λ a. Becomes atoms.now a) }
+    ensures spent { OnOk result (h.new ≡ noted (length atoms.now) (less (1 + count_by T.is_counted atoms.now) h.old)) }
+    ensures refused { OnErr result (Moves 0 (length atoms.now) h.old h.new) }
+{
+    if atoms.is_empty() {
+        return Array::new(alloc, h);
+    }
+    let items = read_all(alloc, atoms, h)?;
+    match Array::from_vec(alloc, items, h) {
+        Ok(a) => Ok(a),
+        Err((refused, items)) => {
+            end_all(items, h);
+            Err(refused)
+        }
+    }
+}
+
+/// `equal N M`
+pub fn equal<T: Element<Q>, Q: Stock>(
+    a: &Array<T, Q>,
+    other: &Array<T, Q>,
+    text: &mut Vec<u8>,
+) -> Result<(), NoMemory>
+    ensures ok { OnOk result (text.new.items ≡ text.old.items ++ line (truth (same_items a.now.value other.now.value))) }
+    ensures err { OnErr result (text.new.items ≡ text.old.items) }
+{
+    put_truth(a.equals(other), text)
 }
 
 impl<T: Element<Q>, Q: Stock> Listed<T, Q> for Array<T, Q> {

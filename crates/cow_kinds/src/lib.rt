@@ -6,6 +6,8 @@ mod element;
 mod lines;
 mod listed;
 mod positions;
+mod queries;
 mod reading;
+mod slice;
 
 pub use element::Element;
