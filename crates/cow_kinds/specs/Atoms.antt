@@ -1,5 +1,5 @@
 -- The literal atoms of a statement.
-use Rattle.std.specs.Prelude.{ℕ, List, [], ◌∷◌, All}
+use Rattle.std.specs.Prelude.{Bool, true, false, List, [], ◌∷◌, All}
 use Rattle.cow_model.specs.Literals.{FitsText}
 use Rattle.cow_model.specs.Sharing.{Layer}
 use Rattle.cow_model.specs.declared.plain.Literal.{Literal}
@@ -26,3 +26,8 @@ atoms_of statement = []
 -- no text among them has more than 255 bytes
 abbrev pub FitsTexts : Layer → Type 0
 FitsTexts statement = All FitsText (atoms_of statement)
+
+-- whether a statement is `rebase`
+abbrev pub is_rebase : Layer → Bool
+is_rebase (Statement-F.Rebase l n) = true
+is_rebase statement = false

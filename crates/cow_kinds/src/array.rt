@@ -2,6 +2,7 @@
 // element.
 ghost use Rattle.std.specs.Prelude.{◌≡◌, ◌+◌, ◌*◌, ◌≤◌, [], ◌∷◌, ◌++◌, length, count_by, slice_get, All, IfOk, OnOk, OnErr};
 ghost use Rattle.cow_model.specs.Flat.{need, Becomes};
+ghost use Rattle.cow_model.specs.Changes.{change_of, query_of};
 ghost use Rattle.cow_model.specs.Literals.{FitsText};
 ghost use Rattle.cow_model.specs.Operation as spec;
 ghost use Rattle.cow_model.specs.Operation.{fitting};
@@ -9,18 +10,21 @@ ghost use Rattle.cow_model.specs.Plain.{max_count, same_items};
 ghost use Rattle.cow_model.specs.Printed.{line, truth};
 ghost use Rattle.cow_model.specs.Purse.{Moves, less, noted};
 ghost use Rattle.cow_model.specs.declared.value.Plain.TheVariants as plain;
-ghost use Rattle.cow_kinds.specs.Answers.{verdict, value_after, reply_of};
+ghost use Rattle.cow_model.specs.declared.statement.Statement.{out-Statement};
+ghost use Rattle.cow_kinds.specs.Answers.{verdict, value_after, reply_of, told_verdict, told_reply};
+ghost use Rattle.cow_kinds.specs.Atoms.{FitsTexts, atoms_of};
 ghost use Rattle.cow_kinds.specs.Seen.{array, StaysAlone, Costs, PopCosts};
 
 use crate::element::Element;
-use crate::lines::{put_element_at, put_truth};
+use crate::lines::{put_element_at, put_number, put_truth};
 use crate::listed::Listed;
 use crate::positions::{MAX_COUNT, index, index_to_end, stretch};
+use crate::queries::get;
 use crate::reading::{end_all, read_all};
 use cow_array::Array;
 use cow_cell::{Holder, Stock};
 use cow_item::Item;
-use cow_model::{Literal, NoMemory, Refusal, Side};
+use cow_model::{Literal, NoMemory, Refusal, Side, Statement};
 use std::alloc::Global;
 
 /// `append N A`
@@ -331,6 +335,58 @@ pub fn extend<T: Element<Q>, Q: Stock>(
     }
     a.extend(other, h)?;
     Ok(Ok(()))
+}
+
+/// A statement that changes one value, on an array.
+pub fn change<T: Element<Q>, Q: Stock>(
+    a: &mut Array<T, Q>,
+    alloc: Global,
+    statement: &Statement,
+    text: &mut Vec<u8>,
+    h: &mut Holder<Q>,
+) -> Result<Result<(), Refusal>, NoMemory>
+    requires texts { FitsTexts (out-Statement statement.now) }
+    requires small { length a.old.value ≤ max_count }
+    requires spare { need (2 * (length a.old.value + length (atoms_of (out-Statement statement.now))) + 1) ≤ h.old.spare }
+    ensures answer { IfOk result (λ r. r ≡ verdict (fitting (change_of (out-Statement statement.now) (plain.Array a.old.value)))) }
+    ensures value { OnOk result (plain.Array a.new.value ≡ value_after (plain.Array a.old.value) (fitting (change_of (out-Statement statement.now) (plain.Array a.old.value)))) }
+    ensures reply { OnOk result (text.new.items ≡ text.old.items ++ reply_of (fitting (change_of (out-Statement statement.now) (plain.Array a.old.value)))) }
+    ensures refused { OnErr result ((a.new.value ≡ a.old.value) × (text.new.items ≡ text.old.items)) }
+    ensures alone { StaysAlone (array T.is_counted a.old) (array T.is_counted a.new) }
+    ensures paid { Costs (count_by T.is_counted (atoms_of (out-Statement statement.now))) (length (atoms_of (out-Statement statement.now))) (array T.is_counted a.old) h.old h.new }
+{
+    match statement {
+        Statement::Append { atom, .. } => append(a, alloc, atom, h),
+        Statement::InsertAt { i, atom, .. } => insert_at(a, alloc, *i, atom, h),
+        Statement::Remove { atom, .. } => remove(a, atom, text, h),
+        Statement::Set { i, atom, .. } => set(a, alloc, *i, atom, h),
+        Statement::Swap { i, j, .. } => swap(a, *i, *j, h),
+        Statement::Reverse { .. } => reverse(a, h),
+        Statement::Splice { i, j, atoms, .. } => splice(a, alloc, *i, *j, atoms.as_slice(), h),
+        Statement::Reserve { c, .. } => reserve(a, *c, h),
+        Statement::Clear { .. } => clear(a, h),
+        _ => Ok(Err(Refusal::WrongKind)),
+    }
+}
+
+/// A statement that reads one value, on an array.
+pub fn tell<T: Element<Q>, Q: Stock>(
+    a: &Array<T, Q>,
+    statement: &Statement,
+    text: &mut Vec<u8>,
+) -> Result<Result<(), Refusal>, NoMemory>
+    ensures answer { IfOk result (λ r. r ≡ told_verdict (query_of (out-Statement statement.now) (plain.Array a.now.value))) }
+    ensures reply { OnOk result (text.new.items ≡ text.old.items ++ told_reply (query_of (out-Statement statement.now) (plain.Array a.now.value))) }
+    ensures refused { OnErr result (text.new.items ≡ text.old.items) }
+{
+    match statement {
+        Statement::Count { .. } => {
+            put_number(a.count(), text)?;
+            Ok(Ok(()))
+        }
+        Statement::Get { atom, .. } => get(a, 0, atom, text),
+        _ => Ok(Err(Refusal::WrongKind)),
+    }
 }
 
 /// `let N = array A*`. Each atom counts one copy.

@@ -9,5 +9,7 @@ mod positions;
 mod queries;
 mod reading;
 mod slice;
+mod value;
 
 pub use element::Element;
+pub use value::Value;

@@ -1,24 +1,28 @@
 // The statements on slices, each as its definition says. A refused one changes nothing and makes no
 // element.
-ghost use Rattle.std.specs.Prelude.{◌≡◌, ◌+◌, ◌*◌, ◌^◌, ◌<◌, ◌≤◌, true, [], ◌∷◌, ◌++◌, length, count_by, IfOk, OnOk, OnErr};
+ghost use Rattle.std.specs.Prelude.{◌≡◌, ◌+◌, ◌*◌, ◌^◌, ◌<◌, ◌≤◌, true, false, [], ◌∷◌, ◌++◌, length, count_by, IfOk, OnOk, OnErr};
 ghost use Rattle.cow_model.specs.Flat.{need};
+ghost use Rattle.cow_model.specs.Changes.{change_of, query_of};
 ghost use Rattle.cow_model.specs.Literals.{FitsText};
 ghost use Rattle.cow_model.specs.Operation as spec;
 ghost use Rattle.cow_model.specs.Operation.{fitting};
 ghost use Rattle.cow_model.specs.Plain.{max_count, same_items};
 ghost use Rattle.cow_model.specs.Printed.{line, truth};
 ghost use Rattle.cow_model.specs.declared.value.Plain.TheVariants as plain;
-ghost use Rattle.cow_kinds.specs.Answers.{verdict, value_after, reply_of};
+ghost use Rattle.cow_model.specs.declared.statement.Statement.{out-Statement};
+ghost use Rattle.cow_kinds.specs.Answers.{verdict, value_after, reply_of, told_verdict, told_reply};
+ghost use Rattle.cow_kinds.specs.Atoms.{FitsTexts, atoms_of, is_rebase};
 ghost use Rattle.cow_kinds.specs.Seen.{slice, StaysAlone, Costs, PopCosts};
 
 use crate::element::Element;
-use crate::lines::{put_element_at, put_truth};
+use crate::lines::{put_element_at, put_number, put_truth};
 use crate::listed::Listed;
 use crate::positions::{MAX_COUNT, index};
+use crate::queries::get;
 use cow_array::ArraySlice;
 use cow_cell::{Holder, Stock};
 use cow_item::Item;
-use cow_model::{Literal, NoMemory, Refusal, Side};
+use cow_model::{Literal, NoMemory, Refusal, Side, Statement};
 use std::alloc::Global;
 
 /// `append N A`
@@ -110,6 +114,53 @@ pub fn pop<T: Element<Q>, Q: Stock>(
         old.end(h);
     }
     Ok(Ok(()))
+}
+
+/// A statement that changes one value, on a slice. One that makes an array of it is none of these.
+pub fn change<T: Element<Q>, Q: Stock>(
+    s: &mut ArraySlice<T, Q>,
+    alloc: Global,
+    statement: &Statement,
+    text: &mut Vec<u8>,
+    h: &mut Holder<Q>,
+) -> Result<Result<(), Refusal>, NoMemory>
+    requires small { length s.old.value.items ≤ max_count }
+    requires stop { s.old.value.start + length s.old.value.items < 2 ^ 31 }
+    requires kept { is_rebase (out-Statement statement.now) ≡ false }
+    requires texts { FitsTexts (out-Statement statement.now) }
+    requires spare { need (2 * (length s.old.value.items + length (atoms_of (out-Statement statement.now))) + 1) ≤ h.old.spare }
+    ensures answer { IfOk result (λ r. r ≡ verdict (fitting (change_of (out-Statement statement.now) (plain.Slice s.old.value.start s.old.value.items)))) }
+    ensures value { OnOk result (plain.Slice s.new.value.start s.new.value.items ≡ value_after (plain.Slice s.old.value.start s.old.value.items) (fitting (change_of (out-Statement statement.now) (plain.Slice s.old.value.start s.old.value.items)))) }
+    ensures reply { OnOk result (text.new.items ≡ text.old.items ++ reply_of (fitting (change_of (out-Statement statement.now) (plain.Slice s.old.value.start s.old.value.items)))) }
+    ensures refused { OnErr result ((s.new.value.start ≡ s.old.value.start) × (s.new.value.items ≡ s.old.value.items) × (text.new.items ≡ text.old.items)) }
+    ensures alone { StaysAlone (slice T.is_counted s.old) (slice T.is_counted s.new) }
+    ensures paid { Costs (count_by T.is_counted (atoms_of (out-Statement statement.now))) (length (atoms_of (out-Statement statement.now))) (slice T.is_counted s.old) h.old h.new }
+{
+    match statement {
+        Statement::Append { atom, .. } => append(s, alloc, atom, h),
+        Statement::Set { i, atom, .. } => set(s, alloc, *i, atom, h),
+        _ => Ok(Err(Refusal::WrongKind)),
+    }
+}
+
+/// A statement that reads one value, on a slice.
+pub fn tell<T: Element<Q>, Q: Stock>(
+    s: &ArraySlice<T, Q>,
+    statement: &Statement,
+    text: &mut Vec<u8>,
+) -> Result<Result<(), Refusal>, NoMemory>
+    ensures answer { IfOk result (λ r. r ≡ told_verdict (query_of (out-Statement statement.now) (plain.Slice s.now.value.start s.now.value.items))) }
+    ensures reply { OnOk result (text.new.items ≡ text.old.items ++ told_reply (query_of (out-Statement statement.now) (plain.Slice s.now.value.start s.now.value.items))) }
+    ensures refused { OnErr result (text.new.items ≡ text.old.items) }
+{
+    match statement {
+        Statement::Count { .. } => {
+            put_number(s.count(), text)?;
+            Ok(Ok(()))
+        }
+        Statement::Get { atom, .. } => get(s, s.start(), atom, text),
+        _ => Ok(Err(Refusal::WrongKind)),
+    }
 }
 
 /// `equal N M`: by elements alone.
