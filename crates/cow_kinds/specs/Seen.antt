@@ -31,6 +31,11 @@ abbrev pub stop : Plain → ℕ
 stop (plain.Slice start items) = start + length items
 stop value = count value
 
+-- a slice as the array of its elements
+abbrev pub listed : Plain → Plain
+listed (plain.Slice start items) = plain.Array items
+listed value = value
+
 -- a value that was alone is alone, and one that differs from before is, too
 pub record StaysAlone (before after : Seen) : Type 0 where
   pub kept : before.alone ≡ true → after.alone ≡ true
