@@ -10,6 +10,7 @@ ghost use Rattle.cow_model.specs.Plain.{max_count, same_items};
 ghost use Rattle.cow_model.specs.Printed.{line, truth};
 ghost use Rattle.cow_model.specs.Purse.{Moves, less, noted};
 ghost use Rattle.cow_model.specs.declared.value.Plain.TheVariants as plain;
+ghost use Rattle.cow_model.specs.Sharing.{literals};
 ghost use Rattle.cow_model.specs.declared.statement.Statement.{out-Statement};
 ghost use Rattle.cow_kinds.specs.Answers.{verdict, value_after, reply_of, told_verdict, told_reply};
 ghost use Rattle.cow_kinds.specs.Atoms.{FitsTexts, atoms_of};
@@ -41,8 +42,8 @@ pub fn append<T: Element<Q>, Q: Stock>(
     ensures value { OnOk result (plain.Array a.new.value ≡ value_after (plain.Array a.old.value) (fitting (spec.append atom.now (plain.Array a.old.value)))) }
     ensures silent { reply_of (fitting (spec.append atom.now (plain.Array a.old.value))) ≡ [] }
     ensures refused { OnErr result (a.new.value ≡ a.old.value) }
-    ensures alone { StaysAlone (array T.is_counted a.old) (array T.is_counted a.new) }
-    ensures paid { Costs (count_by T.is_counted (atom.now ∷ [])) (1) (array T.is_counted a.old) h.old h.new }
+    ensures alone { StaysAlone (array a.old) (array a.new) }
+    ensures paid { Costs T.is_counted (count_by T.is_counted (atom.now ∷ [])) (1) (array a.old) h.old h.new }
 {
     if a.count() >= MAX_COUNT {
         return Ok(Err(Refusal::Full));
@@ -72,8 +73,8 @@ pub fn insert_at<T: Element<Q>, Q: Stock>(
     ensures value { OnOk result (plain.Array a.new.value ≡ value_after (plain.Array a.old.value) (fitting (spec.insert_at i atom.now (plain.Array a.old.value)))) }
     ensures silent { reply_of (fitting (spec.insert_at i atom.now (plain.Array a.old.value))) ≡ [] }
     ensures refused { OnErr result (a.new.value ≡ a.old.value) }
-    ensures alone { StaysAlone (array T.is_counted a.old) (array T.is_counted a.new) }
-    ensures paid { Costs (count_by T.is_counted (atom.now ∷ [])) (1) (array T.is_counted a.old) h.old h.new }
+    ensures alone { StaysAlone (array a.old) (array a.new) }
+    ensures paid { Costs T.is_counted (count_by T.is_counted (atom.now ∷ [])) (1) (array a.old) h.old h.new }
 {
     let Some(place) = index_to_end(a.count(), i) else {
         return Ok(Err(Refusal::OutOfRange));
@@ -106,8 +107,8 @@ pub fn set<T: Element<Q>, Q: Stock>(
     ensures value { OnOk result (plain.Array a.new.value ≡ value_after (plain.Array a.old.value) (fitting (spec.set i atom.now (plain.Array a.old.value)))) }
     ensures silent { reply_of (fitting (spec.set i atom.now (plain.Array a.old.value))) ≡ [] }
     ensures refused { OnErr result (a.new.value ≡ a.old.value) }
-    ensures alone { StaysAlone (array T.is_counted a.old) (array T.is_counted a.new) }
-    ensures paid { Costs (count_by T.is_counted (atom.now ∷ [])) (1) (array T.is_counted a.old) h.old h.new }
+    ensures alone { StaysAlone (array a.old) (array a.new) }
+    ensures paid { Costs T.is_counted (count_by T.is_counted (atom.now ∷ [])) (1) (array a.old) h.old h.new }
 {
     let Some(place) = index(0, a.count(), i) else {
         return Ok(Err(Refusal::OutOfRange));
@@ -138,8 +139,8 @@ pub fn swap<T: Element<Q>, Q: Stock>(
     ensures value { OnOk result (plain.Array a.new.value ≡ value_after (plain.Array a.old.value) (fitting (spec.swap i j (plain.Array a.old.value)))) }
     ensures silent { reply_of (fitting (spec.swap i j (plain.Array a.old.value))) ≡ [] }
     ensures refused { OnErr result (a.new.value ≡ a.old.value) }
-    ensures alone { StaysAlone (array T.is_counted a.old) (array T.is_counted a.new) }
-    ensures paid { Costs (0) (0) (array T.is_counted a.old) h.old h.new }
+    ensures alone { StaysAlone (array a.old) (array a.new) }
+    ensures paid { Costs T.is_counted (0) (0) (array a.old) h.old h.new }
 {
     let Some(first) = index(0, a.count(), i) else {
         return Ok(Err(Refusal::OutOfRange));
@@ -162,8 +163,8 @@ pub fn reverse<T: Element<Q>, Q: Stock>(
     ensures value { OnOk result (plain.Array a.new.value ≡ value_after (plain.Array a.old.value) (fitting (spec.reversed (plain.Array a.old.value)))) }
     ensures silent { reply_of (fitting (spec.reversed (plain.Array a.old.value))) ≡ [] }
     ensures refused { OnErr result (a.new.value ≡ a.old.value) }
-    ensures alone { StaysAlone (array T.is_counted a.old) (array T.is_counted a.new) }
-    ensures paid { Costs (0) (0) (array T.is_counted a.old) h.old h.new }
+    ensures alone { StaysAlone (array a.old) (array a.new) }
+    ensures paid { Costs T.is_counted (0) (0) (array a.old) h.old h.new }
 {
     a.reverse(h)?;
     Ok(Ok(()))
@@ -181,8 +182,8 @@ pub fn reserve<T: Element<Q>, Q: Stock>(
     ensures value { OnOk result (plain.Array a.new.value ≡ value_after (plain.Array a.old.value) (fitting (spec.reserve c (plain.Array a.old.value)))) }
     ensures silent { reply_of (fitting (spec.reserve c (plain.Array a.old.value))) ≡ [] }
     ensures refused { OnErr result (a.new.value ≡ a.old.value) }
-    ensures alone { StaysAlone (array T.is_counted a.old) (array T.is_counted a.new) }
-    ensures paid { Costs (0) (0) (array T.is_counted a.old) h.old h.new }
+    ensures alone { StaysAlone (array a.old) (array a.new) }
+    ensures paid { Costs T.is_counted (0) (0) (array a.old) h.old h.new }
 {
     let Some(more) = index_to_end(MAX_COUNT, c) else {
         return Ok(Err(Refusal::OutOfRange));
@@ -202,8 +203,8 @@ pub fn clear<T: Element<Q>, Q: Stock>(
     ensures value { OnOk result (plain.Array a.new.value ≡ value_after (plain.Array a.old.value) (fitting (spec.clear (plain.Array a.old.value)))) }
     ensures silent { reply_of (fitting (spec.clear (plain.Array a.old.value))) ≡ [] }
     ensures refused { OnErr result (a.new.value ≡ a.old.value) }
-    ensures alone { StaysAlone (array T.is_counted a.old) (array T.is_counted a.new) }
-    ensures paid { Costs (0) (0) (array T.is_counted a.old) h.old h.new }
+    ensures alone { StaysAlone (array a.old) (array a.new) }
+    ensures paid { Costs T.is_counted (0) (0) (array a.old) h.old h.new }
 {
     a.clear(h)?;
     Ok(Ok(()))
@@ -222,8 +223,8 @@ pub fn remove<T: Element<Q>, Q: Stock>(
     ensures value { OnOk result (plain.Array a.new.value ≡ value_after (plain.Array a.old.value) (fitting (spec.remove x.now (plain.Array a.old.value)))) }
     ensures reply { OnOk result (text.new.items ≡ text.old.items ++ reply_of (fitting (spec.remove x.now (plain.Array a.old.value)))) }
     ensures refused { OnErr result ((a.new.value ≡ a.old.value) × (text.new.items ≡ text.old.items)) }
-    ensures alone { StaysAlone (array T.is_counted a.old) (array T.is_counted a.new) }
-    ensures paid { Costs (count_by T.is_counted (x.now ∷ [])) (1) (array T.is_counted a.old) h.old h.new }
+    ensures alone { StaysAlone (array a.old) (array a.new) }
+    ensures paid { Costs T.is_counted (count_by T.is_counted (x.now ∷ [])) (1) (array a.old) h.old h.new }
 {
     let Literal::Int(i) = x else {
         return Ok(Err(Refusal::WrongKind));
@@ -258,8 +259,8 @@ pub fn pop<T: Element<Q>, Q: Stock>(
     ensures value { OnOk result (plain.Array a.new.value ≡ value_after (plain.Array a.old.value) (fitting (spec.pop side (plain.Array a.old.value)))) }
     ensures reply { OnOk result (text.new.items ≡ text.old.items ++ reply_of (fitting (spec.pop side (plain.Array a.old.value)))) }
     ensures refused { OnErr result ((a.new.value ≡ a.old.value) × (text.new.items ≡ text.old.items)) }
-    ensures alone { StaysAlone (array T.is_counted a.old) (array T.is_counted a.new) }
-    ensures paid { PopCosts (array T.is_counted a.old) h.old h.new }
+    ensures alone { StaysAlone (array a.old) (array a.new) }
+    ensures paid { PopCosts T.is_counted (array a.old) h.old h.new }
 {
     let Side::Last = side else {
         return Ok(Err(Refusal::WrongKind));
@@ -295,8 +296,8 @@ pub fn splice<T: Element<Q>, Q: Stock>(
     ensures value { OnOk result (plain.Array a.new.value ≡ value_after (plain.Array a.old.value) (fitting (spec.splice i j atoms.now (plain.Array a.old.value)))) }
     ensures silent { reply_of (fitting (spec.splice i j atoms.now (plain.Array a.old.value))) ≡ [] }
     ensures refused { OnErr result (a.new.value ≡ a.old.value) }
-    ensures alone { StaysAlone (array T.is_counted a.old) (array T.is_counted a.new) }
-    ensures paid { Costs (count_by T.is_counted atoms.now) (length atoms.now) (array T.is_counted a.old) h.old h.new }
+    ensures alone { StaysAlone (array a.old) (array a.new) }
+    ensures paid { Costs T.is_counted (count_by T.is_counted atoms.now) (length atoms.now) (array a.old) h.old h.new }
 {
     let Some((from, to)) = stretch(a.count(), i, j) else {
         return Ok(Err(Refusal::OutOfRange));
@@ -327,8 +328,8 @@ pub fn extend<T: Element<Q>, Q: Stock>(
     ensures value { OnOk result (plain.Array a.new.value ≡ value_after (plain.Array a.old.value) (fitting (spec.extend (plain.Array a.old.value) (plain.Array other.now.value)))) }
     ensures silent { reply_of (fitting (spec.extend (plain.Array a.old.value) (plain.Array other.now.value))) ≡ [] }
     ensures refused { OnErr result (a.new.value ≡ a.old.value) }
-    ensures alone { StaysAlone (array T.is_counted a.old) (array T.is_counted a.new) }
-    ensures paid { Costs (count_by T.is_counted other.now.value) (length other.now.value) (array T.is_counted a.old) h.old h.new }
+    ensures alone { StaysAlone (array a.old) (array a.new) }
+    ensures paid { Costs T.is_counted (count_by T.is_counted other.now.value) (length other.now.value) (array a.old) h.old h.new }
 {
     if other.count() > MAX_COUNT - a.count() {
         return Ok(Err(Refusal::Full));
@@ -347,13 +348,13 @@ pub fn change<T: Element<Q>, Q: Stock>(
 ) -> Result<Result<(), Refusal>, NoMemory>
     requires texts { FitsTexts (out-Statement statement.now) }
     requires small { length a.old.value ≤ max_count }
-    requires spare { need (2 * (length a.old.value + length (atoms_of (out-Statement statement.now))) + 1) ≤ h.old.spare }
+    requires spare { need (2 * (length a.old.value + literals (out-Statement statement.now)) + 1) ≤ h.old.spare }
     ensures answer { IfOk result (λ r. r ≡ verdict (fitting (change_of (out-Statement statement.now) (plain.Array a.old.value)))) }
     ensures value { OnOk result (plain.Array a.new.value ≡ value_after (plain.Array a.old.value) (fitting (change_of (out-Statement statement.now) (plain.Array a.old.value)))) }
     ensures reply { OnOk result (text.new.items ≡ text.old.items ++ reply_of (fitting (change_of (out-Statement statement.now) (plain.Array a.old.value)))) }
     ensures refused { OnErr result ((a.new.value ≡ a.old.value) × (text.new.items ≡ text.old.items)) }
-    ensures alone { StaysAlone (array T.is_counted a.old) (array T.is_counted a.new) }
-    ensures paid { Costs (count_by T.is_counted (atoms_of (out-Statement statement.now))) (length (atoms_of (out-Statement statement.now))) (array T.is_counted a.old) h.old h.new }
+    ensures alone { StaysAlone (array a.old) (array a.new) }
+    ensures paid { Costs T.is_counted (count_by T.is_counted (atoms_of (out-Statement statement.now))) (literals (out-Statement statement.now)) (array a.old) h.old h.new }
 {
     match statement {
         Statement::Append { atom, .. } => append(a, alloc, atom, h),

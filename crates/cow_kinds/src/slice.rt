@@ -9,6 +9,7 @@ ghost use Rattle.cow_model.specs.Operation.{fitting};
 ghost use Rattle.cow_model.specs.Plain.{max_count, same_items};
 ghost use Rattle.cow_model.specs.Printed.{line, truth};
 ghost use Rattle.cow_model.specs.declared.value.Plain.TheVariants as plain;
+ghost use Rattle.cow_model.specs.Sharing.{literals};
 ghost use Rattle.cow_model.specs.declared.statement.Statement.{out-Statement};
 ghost use Rattle.cow_kinds.specs.Answers.{verdict, value_after, reply_of, told_verdict, told_reply};
 ghost use Rattle.cow_kinds.specs.Atoms.{FitsTexts, atoms_of, is_rebase};
@@ -40,8 +41,9 @@ pub fn append<T: Element<Q>, Q: Stock>(
     ensures value { OnOk result (plain.Slice s.new.value.start s.new.value.items ≡ value_after (plain.Slice s.old.value.start s.old.value.items) (fitting (spec.append atom.now (plain.Slice s.old.value.start s.old.value.items)))) }
     ensures silent { reply_of (fitting (spec.append atom.now (plain.Slice s.old.value.start s.old.value.items))) ≡ [] }
     ensures refused { OnErr result ((s.new.value.start ≡ s.old.value.start) × (s.new.value.items ≡ s.old.value.items)) }
-    ensures alone { StaysAlone (slice T.is_counted s.old) (slice T.is_counted s.new) }
-    ensures paid { Costs (count_by T.is_counted (atom.now ∷ [])) (1) (slice T.is_counted s.old) h.old h.new }
+    ensures alone { StaysAlone (slice s.old) (slice s.new) }
+    ensures hidden { s.new.value.units ≤ s.old.value.units + count_by T.is_counted (atom.now ∷ []) }
+    ensures paid { Costs T.is_counted (count_by T.is_counted (atom.now ∷ [])) (1) (slice s.old) h.old h.new }
 {
     if s.count() >= MAX_COUNT {
         return Ok(Err(Refusal::Full));
@@ -71,8 +73,9 @@ pub fn set<T: Element<Q>, Q: Stock>(
     ensures value { OnOk result (plain.Slice s.new.value.start s.new.value.items ≡ value_after (plain.Slice s.old.value.start s.old.value.items) (fitting (spec.set i atom.now (plain.Slice s.old.value.start s.old.value.items)))) }
     ensures silent { reply_of (fitting (spec.set i atom.now (plain.Slice s.old.value.start s.old.value.items))) ≡ [] }
     ensures refused { OnErr result ((s.new.value.start ≡ s.old.value.start) × (s.new.value.items ≡ s.old.value.items)) }
-    ensures alone { StaysAlone (slice T.is_counted s.old) (slice T.is_counted s.new) }
-    ensures paid { Costs (count_by T.is_counted (atom.now ∷ [])) (1) (slice T.is_counted s.old) h.old h.new }
+    ensures alone { StaysAlone (slice s.old) (slice s.new) }
+    ensures hidden { s.new.value.units ≤ s.old.value.units + count_by T.is_counted (atom.now ∷ []) }
+    ensures paid { Costs T.is_counted (count_by T.is_counted (atom.now ∷ [])) (1) (slice s.old) h.old h.new }
 {
     let Some(place) = index(s.start(), s.count(), i) else {
         return Ok(Err(Refusal::OutOfRange));
@@ -104,7 +107,8 @@ pub fn pop<T: Element<Q>, Q: Stock>(
     ensures reply { OnOk result (text.new.items ≡ text.old.items ++ reply_of (fitting (spec.pop side (plain.Slice s.old.value.start s.old.value.items)))) }
     ensures refused { OnErr result ((s.new.value.start ≡ s.old.value.start) × (s.new.value.items ≡ s.old.value.items) × (text.new.items ≡ text.old.items)) }
     ensures alone { s.old.alone ≡ true → s.new.alone ≡ true }
-    ensures paid { PopCosts (slice T.is_counted s.old) h.old h.new }
+    ensures hidden { s.new.value.units ≤ s.old.value.units }
+    ensures paid { PopCosts T.is_counted (slice s.old) h.old h.new }
 {
     let Side::First = side else {
         return Ok(Err(Refusal::WrongKind));
@@ -128,13 +132,14 @@ pub fn change<T: Element<Q>, Q: Stock>(
     requires stop { s.old.value.start + length s.old.value.items < 2 ^ 31 }
     requires kept { is_rebase (out-Statement statement.now) ≡ false }
     requires texts { FitsTexts (out-Statement statement.now) }
-    requires spare { need (2 * (length s.old.value.items + length (atoms_of (out-Statement statement.now))) + 1) ≤ h.old.spare }
+    requires spare { need (2 * (length s.old.value.items + literals (out-Statement statement.now)) + 1) ≤ h.old.spare }
     ensures answer { IfOk result (λ r. r ≡ verdict (fitting (change_of (out-Statement statement.now) (plain.Slice s.old.value.start s.old.value.items)))) }
     ensures value { OnOk result (plain.Slice s.new.value.start s.new.value.items ≡ value_after (plain.Slice s.old.value.start s.old.value.items) (fitting (change_of (out-Statement statement.now) (plain.Slice s.old.value.start s.old.value.items)))) }
     ensures reply { OnOk result (text.new.items ≡ text.old.items ++ reply_of (fitting (change_of (out-Statement statement.now) (plain.Slice s.old.value.start s.old.value.items)))) }
     ensures refused { OnErr result ((s.new.value.start ≡ s.old.value.start) × (s.new.value.items ≡ s.old.value.items) × (text.new.items ≡ text.old.items)) }
-    ensures alone { StaysAlone (slice T.is_counted s.old) (slice T.is_counted s.new) }
-    ensures paid { Costs (count_by T.is_counted (atoms_of (out-Statement statement.now))) (length (atoms_of (out-Statement statement.now))) (slice T.is_counted s.old) h.old h.new }
+    ensures alone { StaysAlone (slice s.old) (slice s.new) }
+    ensures hidden { s.new.value.units ≤ s.old.value.units + count_by T.is_counted (atoms_of (out-Statement statement.now)) }
+    ensures paid { Costs T.is_counted (count_by T.is_counted (atoms_of (out-Statement statement.now))) (literals (out-Statement statement.now)) (slice s.old) h.old h.new }
 {
     match statement {
         Statement::Append { atom, .. } => append(s, alloc, atom, h),

@@ -9,10 +9,11 @@ ghost use Rattle.cow_model.specs.Plain as plain;
 ghost use Rattle.cow_model.specs.Plain.{max_count};
 ghost use Rattle.cow_model.specs.Printed.{plain_text};
 ghost use Rattle.cow_model.specs.Purse.{Moves, less, more, noted};
+ghost use Rattle.cow_model.specs.Sharing.{literals};
 ghost use Rattle.cow_model.specs.declared.statement.Statement.{out-Statement};
 ghost use Rattle.cow_kinds.specs.Answers.{verdict, value_after, reply_of, told_verdict, told_reply};
 ghost use Rattle.cow_kinds.specs.Atoms.{FitsTexts, atoms_of};
-ghost use Rattle.cow_kinds.specs.Seen.{shared, stop, StaysAlone, Costs, PopCosts, pop_alone, listed};
+ghost use Rattle.cow_kinds.specs.Seen.{shared, stop, StaysAlone, Costs, PopCosts, pop_alone, listed, held, units};
 ghost use Rattle.cow_kinds.specs.Values.{seen, plain_of, is_alone};
 
 use crate::array;
@@ -47,6 +48,7 @@ impl<T: Element<Q>, Q: Stock> Value<T, Q> {
         requires spare { length atoms.now + 1 ≤ h.old.spare }
         ensures value { IfOk result (λ v. plain_of v ≡ spec.made kind atoms.now) }
         ensures alone { IfOk result (λ v. is_alone v ≡ true) }
+        ensures hidden { IfOk result (λ v. (seen v).hidden ≡ 0) }
         ensures spent { OnOk result (h.new ≡ noted (length atoms.now) (less (1 + count_by T.is_counted atoms.now) h.old)) }
         ensures refused { OnErr result (Moves 0 (length atoms.now) h.old h.new) }
     {
@@ -59,8 +61,8 @@ impl<T: Element<Q>, Q: Stock> Value<T, Q> {
     /// A second whole value, in one step: neither is alone.
     pub fn copy(&mut self, h: &mut Holder<Q>) -> Value<T, Q>
         requires { 1 ≤ h.old.spare }
-        ensures same { seen T.is_counted self.new ≡ shared (seen T.is_counted self.old) }
-        ensures copy { seen T.is_counted result ≡ shared (seen T.is_counted self.old) }
+        ensures same { seen self.new ≡ shared (seen self.old) }
+        ensures copy { seen result ≡ shared (seen self.old) }
         ensures spent { h.new ≡ less 1 h.old }
     {
         match self {
@@ -75,8 +77,9 @@ impl<T: Element<Q>, Q: Stock> Value<T, Q> {
         ensures answer { MatchResult result
             (λ v. spec.slice i j (plain_of self.old) ≡ spec.silent (plain_of v))
             (λ why. spec.slice i j (plain_of self.old) ≡ Err why) }
-        ensures same { OnOk result (seen T.is_counted self.new ≡ shared (seen T.is_counted self.old)) }
+        ensures same { OnOk result (seen self.new ≡ shared (seen self.old)) }
         ensures alone { IfOk result (λ v. is_alone v ≡ false) }
+        ensures hidden { IfOk result (λ v. (seen v).hidden ≡ count_by T.is_counted (held (plain_of self.old))) }
         ensures spent { OnOk result (h.new ≡ less 1 h.old) }
         ensures refused { OnErr result ((self.new ≡ self.old) × (h.new ≡ h.old)) }
     {
@@ -91,7 +94,7 @@ impl<T: Element<Q>, Q: Stock> Value<T, Q> {
 
     /// Not known to be alone any more. Nothing at run time.
     pub fn settle(&mut self)
-        ensures { seen T.is_counted self.new ≡ shared (seen T.is_counted self.old) }
+        ensures { seen self.new ≡ shared (seen self.old) }
     {
         match self {
             Value::Array(a) => a.settle(),
@@ -101,7 +104,7 @@ impl<T: Element<Q>, Q: Stock> Value<T, Q> {
 
     /// The handle is given back; the last one of a storage ends its elements, shown or not.
     pub fn end(self, h: &mut Holder<Q>)
-        ensures moved { Moves (seen T.is_counted self).units 0 (more 1 h.old) h.new }
+        ensures moved { Moves (units T.is_counted (seen self)) 0 (more 1 h.old) h.new }
         ensures never_less { h.old.spare + 1 ≤ h.new.spare }
     {
         match self {
@@ -156,8 +159,9 @@ impl<T: Element<Q>, Q: Stock> Value<T, Q> {
         ensures value { OnOk result (plain_of self.new ≡ value_after (plain_of self.old) (fitting (spec.rebase (plain_of self.old)))) }
         ensures silent { reply_of (fitting (spec.rebase (plain_of self.old))) ≡ [] }
         ensures refused { OnErr result (plain_of self.new ≡ plain_of self.old) }
-        ensures alone { StaysAlone (seen T.is_counted self.old) (seen T.is_counted self.new) }
-        ensures paid { Costs 0 0 (seen T.is_counted self.old) h.old h.new }
+        ensures alone { StaysAlone (seen self.old) (seen self.new) }
+        ensures hidden { (seen self.new).hidden ≤ (seen self.old).hidden }
+        ensures paid { Costs T.is_counted 0 0 (seen self.old) h.old h.new }
     {
         if let Value::Array(_) = self {
             return Ok(Err(Refusal::WrongKind));
@@ -176,8 +180,9 @@ impl<T: Element<Q>, Q: Stock> Value<T, Q> {
         requires { need (plain.count (plain_of self)) ≤ h.old.spare }
         ensures ok { OnOk result.0 (plain_of result.1 ≡ listed (plain_of self)) }
         ensures refused { OnErr result.0 (plain_of result.1 ≡ plain_of self) }
-        ensures alone { StaysAlone (seen T.is_counted self) (seen T.is_counted result.1) }
-        ensures paid { Costs 0 0 (seen T.is_counted self) h.old h.new }
+        ensures alone { StaysAlone (seen self) (seen result.1) }
+        ensures hidden { (seen result.1).hidden ≤ (seen self).hidden }
+        ensures paid { Costs T.is_counted 0 0 (seen self) h.old h.new }
     {
         match self {
             Value::Array(a) => (Ok(()), Value::Array(a)),
@@ -200,13 +205,14 @@ impl<T: Element<Q>, Q: Stock> Value<T, Q> {
         requires texts { FitsTexts (out-Statement statement.now) }
         requires small { plain.count (plain_of self.old) ≤ max_count }
         requires stop { stop (plain_of self.old) < 2 ^ 31 }
-        requires spare { need (2 * (plain.count (plain_of self.old) + length (atoms_of (out-Statement statement.now))) + 1) ≤ h.old.spare }
+        requires spare { need (2 * (plain.count (plain_of self.old) + literals (out-Statement statement.now)) + 1) ≤ h.old.spare }
         ensures answer { IfOk result (λ r. r ≡ verdict (fitting (change_of (out-Statement statement.now) (plain_of self.old)))) }
         ensures value { OnOk result (plain_of self.new ≡ value_after (plain_of self.old) (fitting (change_of (out-Statement statement.now) (plain_of self.old)))) }
         ensures reply { OnOk result (text.new.items ≡ text.old.items ++ reply_of (fitting (change_of (out-Statement statement.now) (plain_of self.old)))) }
         ensures refused { OnErr result ((plain_of self.new ≡ plain_of self.old) × (text.new.items ≡ text.old.items)) }
-        ensures alone { StaysAlone (seen T.is_counted self.old) (seen T.is_counted self.new) }
-        ensures paid { Costs (count_by T.is_counted (atoms_of (out-Statement statement.now))) (length (atoms_of (out-Statement statement.now))) (seen T.is_counted self.old) h.old h.new }
+        ensures alone { StaysAlone (seen self.old) (seen self.new) }
+        ensures hidden { (seen self.new).hidden ≤ (seen self.old).hidden + count_by T.is_counted (atoms_of (out-Statement statement.now)) }
+        ensures paid { Costs T.is_counted (count_by T.is_counted (atoms_of (out-Statement statement.now))) (literals (out-Statement statement.now)) (seen self.old) h.old h.new }
     {
         if let Statement::Rebase { .. } = statement {
             return self.rebase(alloc, h);
@@ -231,8 +237,9 @@ impl<T: Element<Q>, Q: Stock> Value<T, Q> {
         ensures value { OnOk result (plain_of self.new ≡ value_after (plain_of self.old) (fitting (spec.pop side (plain_of self.old)))) }
         ensures reply { OnOk result (text.new.items ≡ text.old.items ++ reply_of (fitting (spec.pop side (plain_of self.old)))) }
         ensures refused { OnErr result ((plain_of self.new ≡ plain_of self.old) × (text.new.items ≡ text.old.items)) }
-        ensures alone { pop_alone (plain_of self.old) (seen T.is_counted self.old) (seen T.is_counted self.new) }
-        ensures paid { PopCosts (seen T.is_counted self.old) h.old h.new }
+        ensures alone { pop_alone (plain_of self.old) (seen self.old) (seen self.new) }
+        ensures hidden { (seen self.new).hidden ≤ (seen self.old).hidden }
+        ensures paid { PopCosts T.is_counted (seen self.old) h.old h.new }
     {
         match self {
             Value::Array(a) => array::pop(a, side, text, h),
@@ -254,8 +261,9 @@ impl<T: Element<Q>, Q: Stock> Value<T, Q> {
         ensures value { OnOk result (plain_of self.new ≡ value_after (plain_of self.old) (fitting (change_by_of (out-Statement statement.now) (plain_of self.old) (plain_of other.now)))) }
         ensures silent { reply_of (fitting (change_by_of (out-Statement statement.now) (plain_of self.old) (plain_of other.now))) ≡ [] }
         ensures refused { OnErr result (plain_of self.new ≡ plain_of self.old) }
-        ensures alone { StaysAlone (seen T.is_counted self.old) (seen T.is_counted self.new) }
-        ensures paid { Costs (seen T.is_counted other.now).units (plain.size (plain_of other.now)) (seen T.is_counted self.old) h.old h.new }
+        ensures alone { StaysAlone (seen self.old) (seen self.new) }
+        ensures hidden { (seen self.new).hidden ≤ (seen self.old).hidden }
+        ensures paid { Costs T.is_counted (units T.is_counted (seen other.now)) (plain.size (plain_of other.now)) (seen self.old) h.old h.new }
     {
         match (self, statement, other) {
             (Value::Array(a), Statement::Extend { .. }, Value::Array(other)) => {
