@@ -43,7 +43,7 @@ pub fn append<T: Element<Q>, Q: Stock>(
     ensures silent { reply_of (fitting (spec.append atom.now (plain.Array a.old.value))) ≡ [] }
     ensures refused { OnErr result (a.new.value ≡ a.old.value) }
     ensures alone { StaysAlone (array a.old) (array a.new) }
-    ensures paid { Costs T.is_counted (count_by T.is_counted (atom.now ∷ [])) (1) (array a.old) h.old h.new }
+    ensures paid { Costs T.is_counted (count_by T.is_counted (atom.now ∷ [])) 1 (array a.old) h.old h.new }
 {
     if a.count() >= MAX_COUNT {
         return Ok(Err(Refusal::Full));
@@ -74,7 +74,7 @@ pub fn insert_at<T: Element<Q>, Q: Stock>(
     ensures silent { reply_of (fitting (spec.insert_at i atom.now (plain.Array a.old.value))) ≡ [] }
     ensures refused { OnErr result (a.new.value ≡ a.old.value) }
     ensures alone { StaysAlone (array a.old) (array a.new) }
-    ensures paid { Costs T.is_counted (count_by T.is_counted (atom.now ∷ [])) (1) (array a.old) h.old h.new }
+    ensures paid { Costs T.is_counted (count_by T.is_counted (atom.now ∷ [])) 1 (array a.old) h.old h.new }
 {
     let Some(place) = index_to_end(a.count(), i) else {
         return Ok(Err(Refusal::OutOfRange));
@@ -108,7 +108,7 @@ pub fn set<T: Element<Q>, Q: Stock>(
     ensures silent { reply_of (fitting (spec.set i atom.now (plain.Array a.old.value))) ≡ [] }
     ensures refused { OnErr result (a.new.value ≡ a.old.value) }
     ensures alone { StaysAlone (array a.old) (array a.new) }
-    ensures paid { Costs T.is_counted (count_by T.is_counted (atom.now ∷ [])) (1) (array a.old) h.old h.new }
+    ensures paid { Costs T.is_counted (count_by T.is_counted (atom.now ∷ [])) 1 (array a.old) h.old h.new }
 {
     let Some(place) = index(0, a.count(), i) else {
         return Ok(Err(Refusal::OutOfRange));
@@ -134,13 +134,13 @@ pub fn swap<T: Element<Q>, Q: Stock>(
     h: &mut Holder<Q>,
 ) -> Result<Result<(), Refusal>, NoMemory>
     requires small { length a.old.value ≤ max_count }
-    requires spare { need (2 * (length a.old.value + 0) + 1) ≤ h.old.spare }
+    requires spare { need (2 * length a.old.value + 1) ≤ h.old.spare }
     ensures answer { IfOk result (λ r. r ≡ verdict (fitting (spec.swap i j (plain.Array a.old.value)))) }
     ensures value { OnOk result (plain.Array a.new.value ≡ value_after (plain.Array a.old.value) (fitting (spec.swap i j (plain.Array a.old.value)))) }
     ensures silent { reply_of (fitting (spec.swap i j (plain.Array a.old.value))) ≡ [] }
     ensures refused { OnErr result (a.new.value ≡ a.old.value) }
     ensures alone { StaysAlone (array a.old) (array a.new) }
-    ensures paid { Costs T.is_counted (0) (0) (array a.old) h.old h.new }
+    ensures paid { Costs T.is_counted 0 0 (array a.old) h.old h.new }
 {
     let Some(first) = index(0, a.count(), i) else {
         return Ok(Err(Refusal::OutOfRange));
@@ -158,13 +158,13 @@ pub fn reverse<T: Element<Q>, Q: Stock>(
     h: &mut Holder<Q>,
 ) -> Result<Result<(), Refusal>, NoMemory>
     requires small { length a.old.value ≤ max_count }
-    requires spare { need (2 * (length a.old.value + 0) + 1) ≤ h.old.spare }
+    requires spare { need (2 * length a.old.value + 1) ≤ h.old.spare }
     ensures answer { IfOk result (λ r. r ≡ verdict (fitting (spec.reversed (plain.Array a.old.value)))) }
     ensures value { OnOk result (plain.Array a.new.value ≡ value_after (plain.Array a.old.value) (fitting (spec.reversed (plain.Array a.old.value)))) }
     ensures silent { reply_of (fitting (spec.reversed (plain.Array a.old.value))) ≡ [] }
     ensures refused { OnErr result (a.new.value ≡ a.old.value) }
     ensures alone { StaysAlone (array a.old) (array a.new) }
-    ensures paid { Costs T.is_counted (0) (0) (array a.old) h.old h.new }
+    ensures paid { Costs T.is_counted 0 0 (array a.old) h.old h.new }
 {
     a.reverse(h)?;
     Ok(Ok(()))
@@ -177,13 +177,13 @@ pub fn reserve<T: Element<Q>, Q: Stock>(
     h: &mut Holder<Q>,
 ) -> Result<Result<(), Refusal>, NoMemory>
     requires small { length a.old.value ≤ max_count }
-    requires spare { need (2 * (length a.old.value + 0) + 1) ≤ h.old.spare }
+    requires spare { need (2 * length a.old.value + 1) ≤ h.old.spare }
     ensures answer { IfOk result (λ r. r ≡ verdict (fitting (spec.reserve c (plain.Array a.old.value)))) }
     ensures value { OnOk result (plain.Array a.new.value ≡ value_after (plain.Array a.old.value) (fitting (spec.reserve c (plain.Array a.old.value)))) }
     ensures silent { reply_of (fitting (spec.reserve c (plain.Array a.old.value))) ≡ [] }
     ensures refused { OnErr result (a.new.value ≡ a.old.value) }
     ensures alone { StaysAlone (array a.old) (array a.new) }
-    ensures paid { Costs T.is_counted (0) (0) (array a.old) h.old h.new }
+    ensures paid { Costs T.is_counted 0 0 (array a.old) h.old h.new }
 {
     let Some(more) = index_to_end(MAX_COUNT, c) else {
         return Ok(Err(Refusal::OutOfRange));
@@ -198,13 +198,13 @@ pub fn clear<T: Element<Q>, Q: Stock>(
     h: &mut Holder<Q>,
 ) -> Result<Result<(), Refusal>, NoMemory>
     requires small { length a.old.value ≤ max_count }
-    requires spare { need (2 * (length a.old.value + 0) + 1) ≤ h.old.spare }
+    requires spare { need (2 * length a.old.value + 1) ≤ h.old.spare }
     ensures answer { IfOk result (λ r. r ≡ verdict (fitting (spec.clear (plain.Array a.old.value)))) }
     ensures value { OnOk result (plain.Array a.new.value ≡ value_after (plain.Array a.old.value) (fitting (spec.clear (plain.Array a.old.value)))) }
     ensures silent { reply_of (fitting (spec.clear (plain.Array a.old.value))) ≡ [] }
     ensures refused { OnErr result (a.new.value ≡ a.old.value) }
     ensures alone { StaysAlone (array a.old) (array a.new) }
-    ensures paid { Costs T.is_counted (0) (0) (array a.old) h.old h.new }
+    ensures paid { Costs T.is_counted 0 0 (array a.old) h.old h.new }
 {
     a.clear(h)?;
     Ok(Ok(()))
@@ -224,7 +224,7 @@ pub fn remove<T: Element<Q>, Q: Stock>(
     ensures reply { OnOk result (text.new.items ≡ text.old.items ++ reply_of (fitting (spec.remove x.now (plain.Array a.old.value)))) }
     ensures refused { OnErr result ((a.new.value ≡ a.old.value) × (text.new.items ≡ text.old.items)) }
     ensures alone { StaysAlone (array a.old) (array a.new) }
-    ensures paid { Costs T.is_counted (count_by T.is_counted (x.now ∷ [])) (1) (array a.old) h.old h.new }
+    ensures paid { Costs T.is_counted (count_by T.is_counted (x.now ∷ [])) 1 (array a.old) h.old h.new }
 {
     let Literal::Int(i) = x else {
         return Ok(Err(Refusal::WrongKind));
@@ -254,7 +254,7 @@ pub fn pop<T: Element<Q>, Q: Stock>(
     h: &mut Holder<Q>,
 ) -> Result<Result<(), Refusal>, NoMemory>
     requires small { length a.old.value ≤ max_count }
-    requires spare { need (2 * (length a.old.value + 0) + 1) ≤ h.old.spare }
+    requires spare { need (2 * length a.old.value + 1) ≤ h.old.spare }
     ensures answer { IfOk result (λ r. r ≡ verdict (fitting (spec.pop side (plain.Array a.old.value)))) }
     ensures value { OnOk result (plain.Array a.new.value ≡ value_after (plain.Array a.old.value) (fitting (spec.pop side (plain.Array a.old.value)))) }
     ensures reply { OnOk result (text.new.items ≡ text.old.items ++ reply_of (fitting (spec.pop side (plain.Array a.old.value)))) }

@@ -43,7 +43,7 @@ pub fn append<T: Element<Q>, Q: Stock>(
     ensures refused { OnErr result ((s.new.value.start ≡ s.old.value.start) × (s.new.value.items ≡ s.old.value.items)) }
     ensures alone { StaysAlone (slice s.old) (slice s.new) }
     ensures hidden { s.new.value.units ≤ s.old.value.units + count_by T.is_counted (atom.now ∷ []) }
-    ensures paid { Costs T.is_counted (count_by T.is_counted (atom.now ∷ [])) (1) (slice s.old) h.old h.new }
+    ensures paid { Costs T.is_counted (count_by T.is_counted (atom.now ∷ [])) 1 (slice s.old) h.old h.new }
 {
     if s.count() >= MAX_COUNT {
         return Ok(Err(Refusal::Full));
@@ -75,7 +75,7 @@ pub fn set<T: Element<Q>, Q: Stock>(
     ensures refused { OnErr result ((s.new.value.start ≡ s.old.value.start) × (s.new.value.items ≡ s.old.value.items)) }
     ensures alone { StaysAlone (slice s.old) (slice s.new) }
     ensures hidden { s.new.value.units ≤ s.old.value.units + count_by T.is_counted (atom.now ∷ []) }
-    ensures paid { Costs T.is_counted (count_by T.is_counted (atom.now ∷ [])) (1) (slice s.old) h.old h.new }
+    ensures paid { Costs T.is_counted (count_by T.is_counted (atom.now ∷ [])) 1 (slice s.old) h.old h.new }
 {
     let Some(place) = index(s.start(), s.count(), i) else {
         return Ok(Err(Refusal::OutOfRange));
@@ -101,7 +101,7 @@ pub fn pop<T: Element<Q>, Q: Stock>(
     h: &mut Holder<Q>,
 ) -> Result<Result<(), Refusal>, NoMemory>
     requires small { length s.old.value.items ≤ max_count }
-    requires spare { need (2 * (length s.old.value.items + 0) + 1) ≤ h.old.spare }
+    requires spare { need (2 * length s.old.value.items + 1) ≤ h.old.spare }
     ensures answer { IfOk result (λ r. r ≡ verdict (fitting (spec.pop side (plain.Slice s.old.value.start s.old.value.items)))) }
     ensures value { OnOk result (plain.Slice s.new.value.start s.new.value.items ≡ value_after (plain.Slice s.old.value.start s.old.value.items) (fitting (spec.pop side (plain.Slice s.old.value.start s.old.value.items)))) }
     ensures reply { OnOk result (text.new.items ≡ text.old.items ++ reply_of (fitting (spec.pop side (plain.Slice s.old.value.start s.old.value.items)))) }

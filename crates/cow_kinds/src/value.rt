@@ -16,11 +16,10 @@ ghost use Rattle.cow_kinds.specs.Atoms.{FitsTexts, atoms_of};
 ghost use Rattle.cow_kinds.specs.Seen.{shared, stop, StaysAlone, Costs, PopCosts, pop_alone, listed, held, units};
 ghost use Rattle.cow_kinds.specs.Values.{seen, plain_of, is_alone};
 
-use crate::array;
 use crate::element::Element;
 use crate::listed::{put_list, put_list_from};
 use crate::positions::stretch;
-use crate::slice;
+use crate::{array, slice};
 use cow_array::{Array, ArraySlice};
 use cow_cell::{Holder, Stock};
 use cow_model::{Kind, Literal, NoMemory, Refusal, Side, Statement};
@@ -148,11 +147,7 @@ impl<T: Element<Q>, Q: Stock> Value<T, Q> {
     }
 
     // The slice becomes an array. The place of the value holds an empty one meanwhile.
-    fn rebase(
-        &mut self,
-        alloc: Global,
-        h: &mut Holder<Q>,
-    ) -> Result<Result<(), Refusal>, NoMemory>
+    fn rebase(&mut self, alloc: Global, h: &mut Holder<Q>) -> Result<Result<(), Refusal>, NoMemory>
         requires small { plain.count (plain_of self.old) ≤ max_count }
         requires spare { need (2 * plain.count (plain_of self.old) + 1) ≤ h.old.spare }
         ensures answer { IfOk result (λ r. r ≡ verdict (fitting (spec.rebase (plain_of self.old)))) }

@@ -8,8 +8,9 @@ use Rattle.cow_kinds.proofs.listed.put_others.Goals as goal
 pub loop-place-preserved : goal.loop-place-preserved
 loop-place-preserved g c =
     let xs = g.L.Listed.elements c.args.list.now in
-    let there : slice_get xs c.loop-place.place ≡ Some (g.T.Item.plain c.in-Some.x.now) = grind (arith, common_steps, c.at.ensures) in
-    (printed-next atom_text xs c.loop-place.place (g.T.Item.plain c.in-Some.x.now) c.loop-place.text.items c.put_behind_comma.new.text.items
-      (c.args.text.now.items ++ flat_map behind_comma (map atom_text (drop 1 xs)))
-      there (c.loop-place.invariant.0) c.in_ok-put_behind_comma-in-Some.ensures.ok,
-    grind (arith, common_steps))
+    let there : slice_get xs c.loop-place.place ≡ Some (g.T.Item.plain c.in-Some.x.now) = grind (arith, common_steps, c.at.ensures) in (
+      printed-next atom_text xs c.loop-place.place (g.T.Item.plain c.in-Some.x.now) c.loop-place.text.items c.put_behind_comma.new.text.items
+          (c.args.text.now.items ++ flat_map behind_comma (map atom_text (drop 1 xs)))
+          there (c.loop-place.invariant.0) c.in_ok-put_behind_comma-in-Some.ensures.ok,
+      grind (arith, common_steps),
+    )
