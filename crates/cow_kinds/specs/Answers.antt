@@ -27,6 +27,7 @@ abbrev pub told_verdict : Told → Result ⊤ Refusal
 told_verdict (Ok text) = Ok _
 told_verdict (Err why) = Err why
 
+-- the line of what was told, if it was
 abbrev pub told_reply : Told → Text
 told_reply (Ok text) = line text
 told_reply (Err why) = []
