@@ -30,3 +30,6 @@ mod value;
 
 pub use element::Element;
 pub use value::Value;
+
+#[cfg(test)]
+mod tests;
