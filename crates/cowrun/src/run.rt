@@ -9,8 +9,8 @@ ghost use Rattle.cowrun.specs.Answer.{Answers};
 use crate::input::{ReadStop, read_all};
 use crate::output::{write_all, write_not_built};
 use crate::status::Status;
-use cow_first_eval::{Env, run_statement};
 use cow_first::{ParseStop, Statement, parse};
+use cow_first_eval::{Env, run_statement};
 use cow_port::{Sink, Source};
 use std::alloc::Global;
 
