@@ -8,7 +8,7 @@ use Rattle.cow_model.specs.Purse.{Purse}
 use Rattle.cow_model.specs.Run.{run_one, text_from, text_of, env_after, least_from, least_layer, least}
 use Rattle.cow_model.specs.declared.outcome.Environment.{Environment}
 use Rattle.cow_model.specs.declared.statement.Statement.{Statement, out-Statement}
-use Rattle.cow_eval.specs.Built.{is_built, line_of, first_unbuilt}
+use Rattle.cow_eval.specs.Built.{is_built, line_of, unbuilt_line}
 use Rattle.cowrun.specs.Answer.{IsLine}
 use Rattle.cowrun.specs.Lines.{census_if}
 use Rattle.cowrun.specs.Output.{WritesFront, WritesLine}
@@ -51,14 +51,14 @@ pub record Stands (before now : Option (List ℕ)) (ss rest : List Statement) (e
   pub ends : env_after env [] rest ≡ env_after start [] ss
   pub no_less : least ss [] ≤ h.copied + least_from env [] rest
   pub no_more : h.copied ≤ env.allowed
-  pub built : first_unbuilt rest ≡ None
+  pub built : unbuilt_line rest ≡ None
 
 -- the first of built statements is built, and so are the others
-pub first_is_built : (b : Bool) (rest : List Statement) (line : ℕ) → (if b then first_unbuilt rest else Some line) ≡ None → (b ≡ true) × (first_unbuilt rest ≡ None)
+pub first_is_built : (b : Bool) (rest : List Statement) (line : ℕ) → (if b then unbuilt_line rest else Some line) ≡ None → (b ≡ true) × (unbuilt_line rest ≡ None)
 first_is_built true rest line p = (refl, p)
 first_is_built false rest line p = cc
 
-pub head_built : (s : Statement) (rest : List Statement) → first_unbuilt (s ∷ rest) ≡ None → (is_built (out-Statement s) ≡ true) × (first_unbuilt rest ≡ None)
+pub head_built : (s : Statement) (rest : List Statement) → unbuilt_line (s ∷ rest) ≡ None → (is_built (out-Statement s) ≡ true) × (unbuilt_line rest ≡ None)
 head_built s rest p = first_is_built (is_built (out-Statement s)) rest (line_of (out-Statement s)) p
 
 -- one statement more

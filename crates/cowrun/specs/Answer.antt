@@ -9,7 +9,7 @@ use Rattle.cow_model.specs.Run.{text_of, least, bound}
 use Rattle.cow_model.specs.declared.fault.ParseFault.{ParseFault}
 use Rattle.cow_model.specs.declared.fault.ParseFault.TheVariants as fault
 use Rattle.cow_model.specs.declared.statement.Statement.{Statement}
-use Rattle.cow_eval.specs.Built.{first_unbuilt}
+use Rattle.cow_eval.specs.Built.{unbuilt_line}
 use Rattle.cowrun.specs.Input.{max_bytes}
 use Rattle.cowrun.specs.Lines.{usage_text, not_built_text, fault_text, census_if}
 use Rattle.cowrun.specs.declared.status.Status.{Status}
@@ -40,7 +40,7 @@ IsScript bytes ss = (length bytes ≤ max_bytes) × (script_of bytes ≡ Right s
 
 -- the bytes are these statements, and all of them are built
 abbrev pub IsBuiltScript : Text → List Statement → Type 0
-IsBuiltScript bytes ss = IsScript bytes ss × (first_unbuilt ss ≡ None)
+IsBuiltScript bytes ss = IsScript bytes ss × (unbuilt_line ss ≡ None)
 
 -- the input is too long, or all of it has this fault
 abbrev pub IsFault : Type 0 → Text → ParseFault → Type 0
@@ -48,7 +48,7 @@ IsFault ended read why = ((why ≡ too_long) × (length read ≡ max_bytes + 1))
 
 -- all of the input is a script, of which this line is the first that isn't built
 abbrev pub IsNotBuilt : Type 0 → Text → ℕ → Type 0
-IsNotBuilt ended read line = ended × ((ss : List Statement) × IsScript read ss × (first_unbuilt ss ≡ Some line))
+IsNotBuilt ended read line = ended × ((ss : List Statement) × IsScript read ss × (unbuilt_line ss ≡ Some line))
 
 -- a line that is written whole, unless the sink fails
 abbrev pub IsLine : Type 0 → Text → Text → Type 0

@@ -7,7 +7,7 @@ use Rattle.cow_model.specs.Purse.{Purse}
 use Rattle.cow_model.specs.Run.{run_one, least_layer}
 use Rattle.cow_model.specs.declared.outcome.Environment.{Environment}
 use Rattle.cow_model.specs.declared.statement.Statement.{Statement, out-Statement}
-use Rattle.cow_eval.specs.Built.{first_unbuilt}
+use Rattle.cow_eval.specs.Built.{unbuilt_line}
 use Rattle.cowrun.specs.Answer.{stock_units, whole_text, CopiesWithin, Leaks, IsLine, Says}
 use Rattle.cowrun.specs.Lines.{not_built_text}
 use Rattle.cowrun.specs.declared.status.Status.{Status}
@@ -27,11 +27,11 @@ SaysUnits h status = ⊥
 
 -- all that a run of these statements writes was written
 abbrev pub HasDone : Bool → List Statement → Text → Purse → Type 0
-HasDone census ss written h = (first_unbuilt ss ≡ None) × (written ≡ whole_text census h.copied ss) × CopiesWithin ss h.copied
+HasDone census ss written h = (unbuilt_line ss ≡ None) × (written ≡ whole_text census h.copied ss) × CopiesWithin ss h.copied
 
 -- a front of it was written
 abbrev pub HasDoneInPart : Bool → List Statement → Text → Purse → Type 0
-HasDoneInPart census ss written h = (first_unbuilt ss ≡ None) × IsFrontOf written (whole_text census h.copied ss)
+HasDoneInPart census ss written h = (unbuilt_line ss ≡ None) × IsFrontOf written (whole_text census h.copied ss)
 
 -- what was written at each status once statements were read
 abbrev pub SaysOf : Type 0 → Bool → List Statement → Text → Purse → Status → Type 0
@@ -39,7 +39,7 @@ SaysOf sink_failed census ss written h Ok = HasDone census ss written h × (h.sp
 SaysOf sink_failed census ss written h (Leak spare stock) = HasDone census ss written h × Leaks spare stock h
 SaysOf sink_failed census ss written h WriteFault = HasDoneInPart census ss written h
 SaysOf sink_failed census ss written h NoMemory = HasDoneInPart census ss written h
-SaysOf sink_failed census ss written h (NotYet line) = (first_unbuilt ss ≡ Some line) × IsLine sink_failed written (not_built_text line)
+SaysOf sink_failed census ss written h (NotYet line) = (unbuilt_line ss ≡ Some line) × IsLine sink_failed written (not_built_text line)
 SaysOf sink_failed census ss written h status = ⊥
 
 -- what was written to the sink of a run of these statements is what the status says

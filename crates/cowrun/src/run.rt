@@ -101,7 +101,7 @@ fn run_statements<Q: Stock, K: Sink>(
     sink: &mut K,
     h: &mut Holder<Q>,
 ) -> Result<(), RunStop>
-    requires built { built.first_unbuilt statements.now ≡ None }
+    requires built { built.unbuilt_line statements.now ≡ None }
     requires start { env_of env.old ≡ start }
     requires fresh { h.old ≡ whole }
     ensures ok { OnOk result (Appends (K.held sink.old) (K.held sink.new) (text_of statements.now [])) }
@@ -126,7 +126,7 @@ fn run_script<Q: Stock, K: Sink>(
     sink: &mut K,
     h: &mut Holder<Q>,
 ) -> Result<(), RunStop>
-    requires built { built.first_unbuilt statements.now ≡ None }
+    requires built { built.unbuilt_line statements.now ≡ None }
     requires fresh { h.old ≡ whole }
     ensures ok { OnOk result (Appends (K.held sink.old) (K.held sink.new) (whole_text census h.new.copied statements.now)) }
     ensures err { OnErr result (WritesFront (K.held sink.old) (K.held sink.new) (whole_text census h.new.copied statements.now)) }
