@@ -1,0 +1,3 @@
+pub mod Equals
+pub mod Printing
+pub mod Units

@@ -1,0 +1,32 @@
+// What statements that only read print of a list of elements.
+ghost use Rattle.std.specs.Prelude.{◌≡◌, ◌++◌, IfOk, OnOk, OnErr};
+ghost use Rattle.cow_model.specs.Query as spec;
+ghost use Rattle.cow_kinds.specs.Answers.{told_verdict, told_reply};
+
+use crate::element::Element;
+use crate::lines::put_element_at;
+use crate::listed::Listed;
+use crate::positions::index;
+use cow_cell::Stock;
+use cow_model::{Literal, NoMemory, Refusal};
+
+/// `get N X` of a list whose first element has the index `start`.
+pub fn get<T: Element<Q>, Q: Stock, L: Listed<T, Q>>(
+    list: &L,
+    start: usize,
+    x: &Literal,
+    text: &mut Vec<u8>,
+) -> Result<Result<(), Refusal>, NoMemory>
+    ensures answer { IfOk result (λ r. r ≡ told_verdict (spec.get_at start x.now (L.elements list.now))) }
+    ensures reply { OnOk result (text.new.items ≡ text.old.items ++ told_reply (spec.get_at start x.now (L.elements list.now))) }
+    ensures refused { OnErr result (text.new.items ≡ text.old.items) }
+{
+    let Literal::Int(i) = x else {
+        return Ok(Err(Refusal::WrongKind));
+    };
+    let Some(place) = index(start, list.size(), *i) else {
+        return Ok(Err(Refusal::OutOfRange));
+    };
+    put_element_at(list, place, text)?;
+    Ok(Ok(()))
+}
