@@ -1,14 +1,16 @@
 -- What a statement does to the entry of a name, as the definitions say it of the environment.
-use Rattle.std.proofs.Common.{◌≡◌, ℕ, ℤ, ◌+◌, ◌++◌, Bool, true, false, List, [], map, get_or, set, Some, Ok, Err, Result, refl, ap, sym, ◌∙◌, arith}
+use Rattle.std.proofs.Common.{◌≡◌, if◌then◌else◌, ℕ, ℤ, ◌+◌, ◌++◌, Bool, true, false, List, [], map, get_or, set, Some, Ok, Err, Result, refl, ap, sym, ◌∙◌, arith}
 use Rattle.std.proofs.lemmas.List.{append-nil}
 use Rattle.std.specs.List.{remove}
+use Rattle.std.specs.Str.{bytes_eq}
 use Rattle.cow_model.specs.Lexis.{Text}
 use Rattle.cow_model.specs.Env as env
 use Rattle.cow_model.specs.Operation.{Answer}
 use Rattle.cow_model.specs.Printed.{refusal}
 use Rattle.cow_model.specs.Operation as operation
 use Rattle.cow_model.specs.Query.{Told}
-use Rattle.cow_model.specs.Step.{becomes, with_entry, gives, settles, second_in, assign_in, slice_in, discard_in, told, ask}
+use Rattle.cow_model.specs.Step as step
+use Rattle.cow_model.specs.Step.{becomes, with_entry, with_found, sliced, gives, settles, second_in, assign_in, slice_in, discard_in, told, ask, told_both, ask_both}
 use Rattle.cow_model.specs.declared.outcome.Entry.{Entry}
 use Rattle.cow_model.specs.declared.outcome.Environment.{Environment}
 use Rattle.cow_model.specs.declared.outcome.Outcome.{Outcome}
@@ -16,7 +18,7 @@ use Rattle.cow_model.specs.declared.refusal.Refusal.{Refusal}
 use Rattle.cow_model.specs.declared.value.Plain.{Plain}
 use Rattle.cow_kinds.specs.Answers.{verdict, reply_of, told_verdict, told_reply}
 use Rattle.cow_eval.specs.Envs.{Held, Envs, entry_of, env_of}
-use Rattle.cow_eval.specs.Entries.{entry_after}
+use Rattle.cow_eval.specs.Entries.{entry_after, refusal_or_full}
 use Rattle.cow_eval.proofs.Places.{there, put-there, same-there, settled-there, map-remove}
 
 -- an outcome: the environment that was left, and the text
@@ -64,6 +66,11 @@ asked before (Err other) why is =
     let same : why ≡ other = cc in
     record { env = refl; text = ap refusal same }
 
+-- a slice for which there is no place: its own refusal comes first
+pub unplaced : (before : Environment) (name other : Text) (a : Answer) → env.has_place name before.names ≡ false → Did before (refusal (refusal_or_full a)) (sliced before name other a)
+unplaced before name other (Ok d) room = rw room (record { env = refl; text = refl })
+unplaced before name other (Err why) room = record { env = refl; text = refl }
+
 -- a second value of another name's, where there is a place for it
 pub second : (before : Environment) (name other : Text) (v : Plain) → env.has_place name before.names ≡ true → Did (gives name v false (settles other before)) [] (second_in before name other v)
 second before name other v place = rw place (record { env = refl; text = refl })
@@ -78,20 +85,39 @@ module _ (before : Envs) (name : Text) (at : ℕ) (e : Held) (place : env.place_
       Did (gives new v false (env_of (record { names = set before.names at e'; room = before.room; allowed = before.allowed }))) [] (assign_in (env_of before) new name)
   assigned new e' v same value room =
       let stands = there name before.names at e place is in
-      rw (settled e' same, stands.read, value) (second (env_of before) new name e.seen.value room)
+      let whole : assign_in (env_of before) new name ≡ second_in (env_of before) new name e.seen.value = ap (λ o. with_found (env_of before) o (λ x. second_in (env_of before) new name x.value)) stands.read in
+      let did = second (env_of before) new name e.seen.value room in
+      record {
+        env = ap (λ x. gives new v false x) (settled e' same) ∙ (ap (λ u. gives new u false (settles name (env_of before))) value ∙ (did.env ∙ ap (λ o. o.env) (sym whole)));
+        text = did.text ∙ ap (λ o. o.text) (sym whole);
+      }
 
   -- a slice of it
   pub cut : (new : Text) (i j : ℤ) (e' : Held) (v : Plain) → entry_of e' ≡ env.shared (entry_of e) → operation.slice i j e.seen.value ≡ operation.silent v → env.has_place new (map entry_of before.names) ≡ true →
       Did (gives new v false (env_of (record { names = set before.names at e'; room = before.room; allowed = before.allowed }))) [] (slice_in (env_of before) new name i j)
   cut new i j e' v same value room =
       let stands = there name before.names at e place is in
-      rw (settled e' same, stands.read, value) (second (env_of before) new name v room)
+      let whole : slice_in (env_of before) new name i j ≡ second_in (env_of before) new name v = ap (λ o. with_found (env_of before) o (λ x. sliced (env_of before) new name (operation.slice i j x.value))) stands.read ∙ ap (λ a. sliced (env_of before) new name a) value in
+      let did = second (env_of before) new name v room in
+      record {
+        env = ap (λ x. gives new v false x) (settled e' same) ∙ (did.env ∙ ap (λ o. o.env) (sym whole));
+        text = did.text ∙ ap (λ o. o.text) (sym whole);
+      }
 
   -- a slice that is refused
   pub uncut : (new : Text) (i j : ℤ) (why : Refusal) → operation.slice i j e.seen.value ≡ Err why → Did (env_of before) (refusal why) (slice_in (env_of before) new name i j)
   uncut new i j why value =
       let stands = there name before.names at e place is in
-      rw (stands.read, value) (record { env = refl; text = refl })
+      let whole : slice_in (env_of before) new name i j ≡ step.refused (env_of before) why = ap (λ o. with_found (env_of before) o (λ x. sliced (env_of before) new name (operation.slice i j x.value))) stands.read ∙ ap (λ a. sliced (env_of before) new name a) value in
+      record { env = ap (λ o. o.env) (sym whole); text = ap (λ o. o.text) (sym whole) }
+
+  -- a slice for which there is no place
+  pub no-room : (new : Text) (i j : ℤ) → env.has_place new (map entry_of before.names) ≡ false → Did (env_of before) (refusal (refusal_or_full (operation.slice i j e.seen.value))) (slice_in (env_of before) new name i j)
+  no-room new i j room =
+      let stands = there name before.names at e place is in
+      let whole : slice_in (env_of before) new name i j ≡ sliced (env_of before) new name (operation.slice i j e.seen.value) = ap (λ o. with_found (env_of before) o (λ x. sliced (env_of before) new name (operation.slice i j x.value))) stands.read in
+      let did = unplaced (env_of before) new name (operation.slice i j e.seen.value) room in
+      record { env = did.env ∙ ap (λ o. o.env) (sym whole); text = did.text ∙ ap (λ o. o.text) (sym whole) }
 
   -- a name that goes
   pub gone : Did (env_of (record { names = remove before.names at; room = before.room; allowed = before.allowed })) [] (discard_in (env_of before) name)
@@ -125,3 +151,32 @@ module _ (before : Envs) (name : Text) (at : ℕ) (e e' : Held) (place : env.pla
       let stands = there name before.names at e place is in
       let same = same-there name before.names at e place is e' (after ∙ unchanged (alone (entry_of e)) (entry_of e) (run (entry_of e)) why err) in
       rw (same, stands.read) (refused (env_of before) name (n (entry_of e)) (alone (entry_of e)) (run (entry_of e)) why err)
+
+-- what two values tell
+both-told : (before : Environment) (name other : Text) (t : Told) → Ok _ ≡ told_verdict t → Did (if bytes_eq name other then settles name before else before) (told_reply t) (told_both before name other t)
+both-told before name other (Ok text) is = record { env = refl; text = refl }
+both-told before name other (Err why) is = cc
+
+both-refused : (before : Environment) (name other : Text) (t : Told) (why : Refusal) → Err why ≡ told_verdict t → Did before (refusal why) (told_both before name other t)
+both-refused before name other (Ok text) why is = cc
+both-refused before name other (Err found) why is =
+    let same : why ≡ found = cc in
+    record { env = refl; text = ap refusal same }
+
+module _ (before : Envs) (name other : Text) (at by : ℕ) (e f : Held)
+    (place : env.place_of name (map entry_of before.names) ≡ Some at) (is : e ≡ get_or before.names at e)
+    (place' : env.place_of other (map entry_of before.names) ≡ Some by) (is' : f ≡ get_or before.names by f) (tell : Plain → Plain → Told) where
+  whole-both : ask_both (env_of before) name other tell ≡ told_both (env_of before) name other (tell e.seen.value f.seen.value)
+  whole-both =
+      ap (λ o. with_found (env_of before) o (λ x. with_entry (env_of before) other (λ y. told_both (env_of before) name other (tell x.value y.value)))) (there name before.names at e place is).read
+      ∙ ap (λ o. with_found (env_of before) o (λ y. told_both (env_of before) name other (tell e.seen.value y.value))) (there other before.names by f place' is').read
+
+  pub told-both : Ok _ ≡ told_verdict (tell e.seen.value f.seen.value) → Did (if bytes_eq name other then settles name (env_of before) else env_of before) (told_reply (tell e.seen.value f.seen.value)) (ask_both (env_of before) name other tell)
+  told-both ok =
+      let did = both-told (env_of before) name other (tell e.seen.value f.seen.value) ok in
+      record { env = did.env ∙ ap (λ o. o.env) (sym whole-both); text = did.text ∙ ap (λ o. o.text) (sym whole-both) }
+
+  pub untold-both : (why : Refusal) → Err why ≡ told_verdict (tell e.seen.value f.seen.value) → Did (env_of before) (refusal why) (ask_both (env_of before) name other tell)
+  untold-both why err =
+      let did = both-refused (env_of before) name other (tell e.seen.value f.seen.value) why err in
+      record { env = did.env ∙ ap (λ o. o.env) (sym whole-both); text = did.text ∙ ap (λ o. o.text) (sym whole-both) }

@@ -4,7 +4,9 @@
 mod entry;
 mod env;
 mod names;
+mod run;
 mod statement;
 mod values;
 
 pub use env::Env;
+pub use run::run_statement;

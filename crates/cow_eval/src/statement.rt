@@ -123,8 +123,8 @@ pub fn discard<T: Element<Q>, Q: Stock>(
     Ok(())
 }
 
-// So many copies more. Want of memory stands for a number past 64 bits, which no script comes near.
-fn sum(allowed: u64, more: usize) -> Result<u64, NoMemory>
+/// So many copies more. Want of memory stands for a number past 64 bits, which no script comes near.
+pub fn sum(allowed: u64, more: usize) -> Result<u64, NoMemory>
     ensures { IfOk result (λ n. n ≡ allowed + more) }
 {
     allowed.checked_add(more as u64).ok_or(NoMemory)
@@ -239,8 +239,9 @@ pub fn change<T: Element<Q>, Q: Stock>(
     let Some(at) = find(&env.names, name) else {
         return refuse(text, Refusal::NoName);
     };
-    let allowed = sum(env.allowed, env.names[at].own_cost())?;
-    match env.names[at].change(alloc, statement, text, h)? {
+    let entry = &mut env.names[at];
+    let allowed = sum(env.allowed, entry.own_cost())?;
+    match entry.change(alloc, statement, text, h)? {
         Ok(()) => {
             env.allowed = allowed;
             Ok(())
@@ -269,8 +270,9 @@ pub fn change_key<T: Element<Q>, Q: Stock>(
     let Some(at) = find(&env.names, name) else {
         return refuse(text, Refusal::NoName);
     };
-    let allowed = sum(env.allowed, env.names[at].key_cost(key))?;
-    match env.names[at].change(alloc, statement, text, h)? {
+    let entry = &mut env.names[at];
+    let allowed = sum(env.allowed, entry.key_cost(key))?;
+    match entry.change(alloc, statement, text, h)? {
         Ok(()) => {
             env.allowed = allowed;
             Ok(())
@@ -295,8 +297,9 @@ pub fn pop<T: Element<Q>, Q: Stock>(
     let Some(at) = find(&env.names, name) else {
         return refuse(text, Refusal::NoName);
     };
-    let allowed = sum(env.allowed, env.names[at].pop_cost(side))?;
-    match env.names[at].pop(side, text, h)? {
+    let entry = &mut env.names[at];
+    let allowed = sum(env.allowed, entry.pop_cost(side))?;
+    match entry.pop(side, text, h)? {
         Ok(()) => {
             env.allowed = allowed;
             Ok(())

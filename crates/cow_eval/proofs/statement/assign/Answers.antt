@@ -9,11 +9,15 @@ use Rattle.cow_eval.proofs.statement.assign.Goals as goal
 pub returns-clause-env : goal.returns-clause-env
 returns-clause-env g c =
     let found = rw c.deref.ensures.value at c.find.ensures in
-    let did = assigned (record { names = c.env.inside.names.items; room = c.env.inside.room; allowed = c.env.inside.allowed }) c.args.other.now c.in-Some.from c.index_mut.result.now (sym found ∙ c.in-Some.is) c.index_mut.ensures.value c.args.name.now c.copy-value.new.self (plain_of c.copy-value.result) (ap entry_of c.copy-value.ensures.entry) (ap (λ s. s.value) c.copy-value.ensures.copy) (sym c.has_place.ensures ∙ c.if-not-has_place.false) in
+    let free = sym c.has_place.ensures ∙ c.if-not-has_place.false in
+    let room = rw (← c.env.view_is) at free in
+    let did = assigned (record { names = c.env.inside.names.items; room = c.env.inside.room; allowed = c.env.inside.allowed }) c.args.other.now c.in-Some.from c.index_mut.result.now (sym found ∙ c.in-Some.is) c.index_mut.ensures.value c.args.name.now c.copy-value.new.self (plain_of c.copy-value.result) (ap entry_of c.copy-value.ensures.entry) (ap (λ s. s.value) c.copy-value.ensures.copy) room in
     rw (← c.env.view_is, ← did.env) c.give.ensures.ok
 
 pub returns-clause-text : goal.returns-clause-text
 returns-clause-text g c =
     let found = rw c.deref.ensures.value at c.find.ensures in
-    let did = assigned (record { names = c.env.inside.names.items; room = c.env.inside.room; allowed = c.env.inside.allowed }) c.args.other.now c.in-Some.from c.index_mut.result.now (sym found ∙ c.in-Some.is) c.index_mut.ensures.value c.args.name.now c.copy-value.new.self (plain_of c.copy-value.result) (ap entry_of c.copy-value.ensures.entry) (ap (λ s. s.value) c.copy-value.ensures.copy) (sym c.has_place.ensures ∙ c.if-not-has_place.false) in
+    let free = sym c.has_place.ensures ∙ c.if-not-has_place.false in
+    let room = rw (← c.env.view_is) at free in
+    let did = assigned (record { names = c.env.inside.names.items; room = c.env.inside.room; allowed = c.env.inside.allowed }) c.args.other.now c.in-Some.from c.index_mut.result.now (sym found ∙ c.in-Some.is) c.index_mut.ensures.value c.args.name.now c.copy-value.new.self (plain_of c.copy-value.result) (ap entry_of c.copy-value.ensures.entry) (ap (λ s. s.value) c.copy-value.ensures.copy) room in
     always _ c.give.result (rw (← c.env.view_is, ← did.text) (sym (append-nil c.args.text.now.items)))

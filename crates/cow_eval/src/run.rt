@@ -1,0 +1,188 @@
+// Statements in turn.
+ghost use Rattle.std.specs.Prelude.{◌≡◌, ◌++◌, ◌^◌, ◌≤◌, [], true, OnOk, OnErr};
+ghost use Rattle.cow_model.specs.Plain.{max_count};
+ghost use Rattle.cow_model.specs.Sharing as sharing;
+ghost use Rattle.cow_model.specs.Step as spec;
+ghost use Rattle.cow_model.specs.declared.statement.Statement.{out-Statement};
+ghost use Rattle.cow_kinds.specs.Atoms.{FitsTexts};
+ghost use Rattle.cow_eval.specs.Built.{is_built};
+ghost use Rattle.cow_eval.specs.Envs.{env_of};
+
+use crate::env::Env;
+use crate::statement::{ask, ask_both, assign, change, change_key, discard, make, show, slice, sum};
+use cow_cell::{Holder, Stock};
+use cow_kinds::Element;
+use cow_model::{Kind, NoMemory, Statement};
+use std::alloc::Global;
+
+/// The most literal atoms of a statement: as many as a value has elements.
+const MAX_ATOMS: usize = 65_536;
+
+// The literal atoms of a statement.
+fn literals(statement: &Statement) -> usize
+    ensures { result ≡ sharing.literals (out-Statement statement.now) }
+{
+    match statement {
+        Statement::Let { atoms, .. } | Statement::Splice { atoms, .. } => atoms.len(),
+        Statement::Append { .. }
+        | Statement::Prepend { .. }
+        | Statement::Insert { .. }
+        | Statement::InsertAt { .. }
+        | Statement::Update { .. }
+        | Statement::Remove { .. }
+        | Statement::Set { .. }
+        | Statement::Get { .. }
+        | Statement::Has { .. }
+        | Statement::Place { .. }
+        | Statement::Replace { .. } => 1,
+        Statement::Put { .. } => 2,
+        _ => 0,
+    }
+}
+
+// Whether a statement is built.
+fn built(statement: &Statement) -> bool
+    ensures { result ≡ is_built (out-Statement statement.now) }
+{
+    match statement {
+        Statement::Let { kind, .. } => *kind == Kind::Array,
+        Statement::Assign { .. }
+        | Statement::Slice { .. }
+        | Statement::Discard { .. }
+        | Statement::Show { .. }
+        | Statement::Count { .. }
+        | Statement::Append { .. }
+        | Statement::Insert { .. }
+        | Statement::InsertAt { .. }
+        | Statement::Remove { .. }
+        | Statement::Set { .. }
+        | Statement::Get { .. }
+        | Statement::Swap { .. }
+        | Statement::Reverse { .. }
+        | Statement::Splice { .. }
+        | Statement::Reserve { .. }
+        | Statement::Clear { .. }
+        | Statement::Rebase { .. }
+        | Statement::Equal { .. } => true,
+        _ => false,
+    }
+}
+
+// What a statement that reads values does.
+fn asking<T: Element<Q>, Q: Stock>(
+    statement: &Statement,
+    env: &mut Env<T, Q>,
+    text: &mut Vec<u8>,
+) -> Result<(), NoMemory>
+    requires built { is_built (out-Statement statement.now) ≡ true }
+    ensures env { OnOk result (env_of env.new ≡ (spec.asking (env_of env.old) (out-Statement statement.now)).env) }
+    ensures text { OnOk result (text.new.items ≡ text.old.items ++ (spec.asking (env_of env.old) (out-Statement statement.now)).text) }
+    ensures err { OnErr result (text.new.items ≡ text.old.items) }
+{
+    match statement {
+        Statement::Count { name, .. } | Statement::Get { name, .. } => {
+            ask(statement, name.as_slice(), env, text)
+        }
+        Statement::Equal { name, other, .. } => {
+            ask_both(statement, name.as_slice(), other.as_slice(), env, text)
+        }
+        _ => Ok(()),
+    }
+}
+
+// What a statement that changes values does.
+fn changing<T: Element<Q>, Q: Stock>(
+    alloc: Global,
+    statement: &Statement,
+    env: &mut Env<T, Q>,
+    h: &mut Holder<Q>,
+    text: &mut Vec<u8>,
+) -> Result<(), NoMemory>
+    requires built { is_built (out-Statement statement.now) ≡ true }
+    requires texts { FitsTexts (out-Statement statement.now) }
+    requires few { sharing.literals (out-Statement statement.now) ≤ max_count }
+    requires spare { 2 ^ 40 ≤ h.old.spare }
+    ensures env { OnOk result (env_of env.new ≡ (spec.changing (env_of env.old) (out-Statement statement.now)).env) }
+    ensures text { OnOk result (text.new.items ≡ text.old.items ++ (spec.changing (env_of env.old) (out-Statement statement.now)).text) }
+    ensures err { OnErr result (text.new.items ≡ text.old.items) }
+{
+    match statement {
+        Statement::Insert { name, atom, .. } | Statement::Remove { name, atom, .. } => {
+            change_key(alloc, statement, name.as_slice(), atom, env, h, text)
+        }
+        Statement::Append { name, .. }
+        | Statement::InsertAt { name, .. }
+        | Statement::Set { name, .. }
+        | Statement::Swap { name, .. }
+        | Statement::Reverse { name, .. }
+        | Statement::Splice { name, .. }
+        | Statement::Reserve { name, .. }
+        | Statement::Clear { name, .. }
+        | Statement::Rebase { name, .. } => {
+            change(alloc, statement, name.as_slice(), env, h, text)
+        }
+        _ => asking(statement, env, text),
+    }
+}
+
+// What a statement does once its literals are allowed.
+fn act<T: Element<Q>, Q: Stock>(
+    alloc: Global,
+    statement: &Statement,
+    env: &mut Env<T, Q>,
+    h: &mut Holder<Q>,
+    text: &mut Vec<u8>,
+) -> Result<(), NoMemory>
+    requires built { is_built (out-Statement statement.now) ≡ true }
+    requires texts { FitsTexts (out-Statement statement.now) }
+    requires few { sharing.literals (out-Statement statement.now) ≤ max_count }
+    requires spare { 2 ^ 40 ≤ h.old.spare }
+    ensures env { OnOk result (env_of env.new ≡ (spec.act (env_of env.old) [] (out-Statement statement.now)).env) }
+    ensures text { OnOk result (text.new.items ≡ text.old.items ++ (spec.act (env_of env.old) [] (out-Statement statement.now)).text) }
+    ensures err { OnErr result (text.new.items ≡ text.old.items) }
+{
+    match statement {
+        Statement::Let { name, kind, atoms, .. } => {
+            make(alloc, name.as_slice(), *kind, atoms.as_slice(), env, h, text)
+        }
+        Statement::Assign { name, other, .. } => {
+            assign(alloc, name.as_slice(), other.as_slice(), env, h, text)
+        }
+        Statement::Slice { name, other, i, j, .. } => {
+            slice(alloc, name.as_slice(), other.as_slice(), *i, *j, env, h, text)
+        }
+        Statement::Discard { name, .. } => discard(name.as_slice(), env, h, text),
+        Statement::Show { name, .. } => show(name.as_slice(), env, text),
+        _ => changing(alloc, statement, env, h, text),
+    }
+}
+
+/// Runs one statement: appends what it prints to `text`, and leaves the environment after it.
+///
+/// A statement looks at each of the at most 64 names. `let N = M`, a slice and `drop` are one step beside that;
+/// a change is linear in the elements at most.
+///
+/// Errors: `NoMemory` alone. The text is then as it was, and of the environment nothing is said but that it
+/// can be ended. It stands also for a statement of more than 65,536 literals, and for numbers of copies past
+/// 64 bits, which no script comes near.
+pub fn run_statement<T: Element<Q>, Q: Stock>(
+    alloc: Global,
+    statement: &Statement,
+    env: &mut Env<T, Q>,
+    h: &mut Holder<Q>,
+    text: &mut Vec<u8>,
+) -> Result<(), NoMemory>
+    requires built { is_built (out-Statement statement.now) ≡ true }
+    requires texts { FitsTexts (out-Statement statement.now) }
+    requires spare { 2 ^ 40 ≤ h.old.spare }
+    ensures env { OnOk result (env_of env.new ≡ (spec.step (env_of env.old) [] (out-Statement statement.now)).env) }
+    ensures text { OnOk result (text.new.items ≡ text.old.items ++ (spec.step (env_of env.old) [] (out-Statement statement.now)).text) }
+    ensures err { OnErr result (text.new.items ≡ text.old.items) }
+{
+    let atoms = literals(statement);
+    if atoms > MAX_ATOMS {
+        return Err(NoMemory);
+    }
+    env.allowed = sum(env.allowed, atoms)?;
+    act(alloc, statement, env, h, text)
+}
