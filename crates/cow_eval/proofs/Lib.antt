@@ -1,4 +1,5 @@
 pub mod Flags
+pub mod Growth
 pub mod Places
 pub mod Results
 pub mod Steps

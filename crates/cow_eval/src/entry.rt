@@ -240,32 +240,6 @@ impl<T: Element<Q>, Q: Stock> Entry<T, Q> {
         result
     }
 
-    /// Does `pop N END`, and appends the line of the element, or `nil`. A refusal changes nothing.
-    pub fn pop(
-        &mut self,
-        side: Side,
-        text: &mut Vec<u8>,
-        h: &mut Holder<Q>,
-    ) -> Result<Result<(), Refusal>, NoMemory>
-        requires spare { 2 ^ 39 ≤ h.old.spare }
-        ensures answer { IfOk result (λ r. r ≡ verdict (spec.pop side self.old.seen.value)) }
-        ensures entry { OnOk result (entry_of self.new ≡ entry_after (sharing.alone_after_pop side (entry_of self.old)) (entry_of self.old) (spec.pop side self.old.seen.value)) }
-        ensures reply { OnOk result (text.new.items ≡ text.old.items ++ reply_of (spec.pop side self.old.seen.value)) }
-        ensures refused { OnErr result (text.new.items ≡ text.old.items) }
-    {
-        if self.alone {
-            return self.value.pop(side, text, h);
-        }
-        if let (Side::First, Value::Slice(_)) = (side, &self.value) {
-            return self.value.pop(side, text, h);
-        }
-        let before = self.value.copy(h);
-        let result = self.value.pop(side, text, h);
-        self.alone = !same(&before, &self.value);
-        before.end(h);
-        result
-    }
-
     /// Does a statement that changes the value by another; none of them prints. A refusal changes nothing.
     pub fn change_by(
         &mut self,

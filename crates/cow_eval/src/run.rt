@@ -1,22 +1,27 @@
 // Statements in turn.
-ghost use Rattle.std.specs.Prelude.{◌≡◌, ◌++◌, ◌^◌, ◌≤◌, [], true, OnOk, OnErr};
+ghost use Rattle.std.specs.Prelude.{◌≡◌, ◌++◌, ◌^◌, ◌≤◌, [], true, All, OnOk, OnErr};
 ghost use Rattle.cow_model.specs.Plain.{max_count};
 ghost use Rattle.cow_model.specs.Sharing as sharing;
 ghost use Rattle.cow_model.specs.Step as spec;
 ghost use Rattle.cow_model.specs.declared.statement.Statement.{out-Statement};
+ghost use Rattle.cow_model.specs.Fronts.{GrowsWithin};
+ghost use Rattle.cow_model.specs.Run as run;
 ghost use Rattle.cow_kinds.specs.Atoms.{FitsTexts};
-ghost use Rattle.cow_eval.specs.Built.{is_built};
+ghost use Rattle.cow_eval.specs.Built.{is_built, IsBuilt};
 ghost use Rattle.cow_eval.specs.Envs.{env_of};
 
 use crate::env::Env;
 use crate::statement::{ask, ask_both, assign, change, change_key, discard, make, show, slice, sum};
 use cow_cell::{Holder, Stock};
 use cow_kinds::Element;
-use cow_model::{Kind, NoMemory, Statement};
+use cow_model::{NoMemory, Statement};
 use std::alloc::Global;
 
 /// The most literal atoms of a statement: as many as a value has elements.
 const MAX_ATOMS: usize = 65_536;
+
+/// The spare that a statement asks for.
+const LEAST_SPARE: u64 = 0x100_0000_0000;
 
 // The literal atoms of a statement.
 fn literals(statement: &Statement) -> usize
@@ -37,34 +42,6 @@ fn literals(statement: &Statement) -> usize
         | Statement::Replace { .. } => 1,
         Statement::Put { .. } => 2,
         _ => 0,
-    }
-}
-
-// Whether a statement is built.
-fn built(statement: &Statement) -> bool
-    ensures { result ≡ is_built (out-Statement statement.now) }
-{
-    match statement {
-        Statement::Let { kind, .. } => *kind == Kind::Array,
-        Statement::Assign { .. }
-        | Statement::Slice { .. }
-        | Statement::Discard { .. }
-        | Statement::Show { .. }
-        | Statement::Count { .. }
-        | Statement::Append { .. }
-        | Statement::Insert { .. }
-        | Statement::InsertAt { .. }
-        | Statement::Remove { .. }
-        | Statement::Set { .. }
-        | Statement::Get { .. }
-        | Statement::Swap { .. }
-        | Statement::Reverse { .. }
-        | Statement::Splice { .. }
-        | Statement::Reserve { .. }
-        | Statement::Clear { .. }
-        | Statement::Rebase { .. }
-        | Statement::Equal { .. } => true,
-        _ => false,
     }
 }
 
@@ -185,4 +162,50 @@ pub fn run_statement<T: Element<Q>, Q: Stock>(
     }
     env.allowed = sum(env.allowed, atoms)?;
     act(alloc, statement, env, h, text)
+}
+
+// A statement of a block.
+fn run_one<T: Element<Q>, Q: Stock>(
+    alloc: Global,
+    statement: &Statement,
+    env: &mut Env<T, Q>,
+    h: &mut Holder<Q>,
+    text: &mut Vec<u8>,
+) -> Result<(), NoMemory>
+    requires built { IsBuilt statement.now }
+    requires texts { FitsTexts (out-Statement statement.now) }
+    ensures env { OnOk result (env_of env.new ≡ (run.run_one (env_of env.old) [] statement.now).env) }
+    ensures text { OnOk result (text.new.items ≡ text.old.items ++ (run.run_one (env_of env.old) [] statement.now).text) }
+    ensures err { OnErr result (text.new.items ≡ text.old.items) }
+{
+    if h.spare() < LEAST_SPARE {
+        return Err(NoMemory);
+    }
+    match statement {
+        Statement::Fork { .. } => unreachable!(),
+        _ => run_statement(alloc, statement, env, h, text),
+    }
+}
+
+/// Runs statements in turn: appends what they print to `text`, and leaves the environment after them.
+///
+/// Errors: `NoMemory` alone. The text then grew by a front of what `Ok` would have printed. It stands also
+/// for a spare of fewer than 2^40 units before a statement, which no script comes near.
+pub fn run_block<T: Element<Q>, Q: Stock>(
+    alloc: Global,
+    block: &[Statement],
+    env: &mut Env<T, Q>,
+    h: &mut Holder<Q>,
+    text: &mut Vec<u8>,
+) -> Result<(), NoMemory>
+    requires built { All IsBuilt block.now }
+    requires texts { All (λ s. FitsTexts (out-Statement s)) block.now }
+    ensures env { OnOk result (env_of env.new ≡ run.env_after (env_of env.old) [] block.now) }
+    ensures text { OnOk result (text.new.items ≡ text.old.items ++ run.text_from (env_of env.old) [] block.now) }
+    ensures err { OnErr result (GrowsWithin text.old.items text.new.items (run.text_from (env_of env.old) [] block.now)) }
+{
+    for statement in block {
+        run_one(alloc, statement, env, h, text)?;
+    }
+    Ok(())
 }

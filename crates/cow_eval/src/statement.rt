@@ -16,7 +16,7 @@ use crate::env::Env;
 use crate::names::find;
 use cow_cell::{Holder, Stock};
 use cow_kinds::{Element, Value};
-use cow_model::{Kind, Literal, NoMemory, Refusal, Side, Statement};
+use cow_model::{Kind, Literal, NoMemory, Refusal, Statement};
 use std::alloc::Global;
 
 /// Appends the line of a refusal, whole or not at all.
@@ -273,33 +273,6 @@ pub fn change_key<T: Element<Q>, Q: Stock>(
     let entry = &mut env.names[at];
     let allowed = sum(env.allowed, entry.key_cost(key))?;
     match entry.change(alloc, statement, text, h)? {
-        Ok(()) => {
-            env.allowed = allowed;
-            Ok(())
-        }
-        Err(why) => refuse(text, why),
-    }
-}
-
-/// `pop N END`
-pub fn pop<T: Element<Q>, Q: Stock>(
-    name: &[u8],
-    side: Side,
-    env: &mut Env<T, Q>,
-    h: &mut Holder<Q>,
-    text: &mut Vec<u8>,
-) -> Result<(), NoMemory>
-    requires spare { 2 ^ 40 ≤ h.old.spare }
-    ensures env { OnOk result (env_of env.new ≡ (spec.pop_in (env_of env.old) name.now side).env) }
-    ensures text { OnOk result (text.new.items ≡ text.old.items ++ (spec.pop_in (env_of env.old) name.now side).text) }
-    ensures err { OnErr result (text.new.items ≡ text.old.items) }
-{
-    let Some(at) = find(&env.names, name) else {
-        return refuse(text, Refusal::NoName);
-    };
-    let entry = &mut env.names[at];
-    let allowed = sum(env.allowed, entry.pop_cost(side))?;
-    match entry.pop(side, text, h)? {
         Ok(()) => {
             env.allowed = allowed;
             Ok(())
