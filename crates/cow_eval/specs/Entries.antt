@@ -1,8 +1,11 @@
 -- What a statement makes of an entry.
-use Rattle.std.specs.Prelude.{Bool, Ok, Err, ℕ}
+use Rattle.std.specs.Prelude.{Bool, true, false, Ok, Err}
 use Rattle.cow_model.specs.Operation.{Answer}
 use Rattle.cow_model.specs.declared.outcome.Entry.{Entry}
+use Rattle.cow_model.specs.declared.statement.Side.{Side}
+use Rattle.cow_model.specs.declared.statement.Side.TheVariants.{First}
 use Rattle.cow_model.specs.declared.value.Plain.{Plain}
+use Rattle.cow_model.specs.declared.value.Plain.TheVariants.{Slice}
 use Rattle.cow_model.specs.declared.refusal.Refusal.{Refusal}
 use Rattle.cow_model.specs.declared.refusal.Refusal.TheVariants.{Full}
 
@@ -15,3 +18,8 @@ entry_after alone e (Err why) = e
 abbrev pub refusal_or_full : Answer → Refusal
 refusal_or_full (Ok done) = Full
 refusal_or_full (Err why) = why
+
+-- whether `pop` takes the first element of a slice, whose storage stays as it is
+abbrev pub is_front : Side → Plain → Bool
+is_front First (Slice start items) = true
+is_front side value = false

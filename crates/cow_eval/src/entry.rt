@@ -19,7 +19,7 @@ ghost use Rattle.cow_kinds.specs.Values.{seen, plain_of, is_alone};
 ghost use Rattle.cow_eval.specs.Envs.{entry_of};
 ghost use Rattle.cow_eval.specs.Entries.{entry_after, refusal_or_full};
 
-use crate::values::{same, size, slice_refusal, stop};
+use crate::values::{is_front, pop, same, size, slice_refusal, stop};
 use cow_cell::{Holder, Stock};
 use cow_kinds::{Element, Value};
 use cow_model::{Literal, Name, NoMemory, Refusal, Side, Statement};
@@ -235,6 +235,32 @@ impl<T: Element<Q>, Q: Stock> Entry<T, Q> {
         }
         let before = self.value.copy(h);
         let result = self.value.change(alloc, statement, text, h);
+        self.alone = !same(&before, &self.value);
+        before.end(h);
+        result
+    }
+
+    /// Does `pop N END`, and appends the line of the element, or `nil`. A refusal changes nothing.
+    pub fn pop(
+        &mut self,
+        side: Side,
+        text: &mut Vec<u8>,
+        h: &mut Holder<Q>,
+    ) -> Result<Result<(), Refusal>, NoMemory>
+        requires spare { 2 ^ 40 ≤ h.old.spare }
+        ensures answer { IfOk result (λ r. r ≡ verdict (spec.pop side self.old.seen.value)) }
+        ensures entry { OnOk result (entry_of self.new ≡ entry_after (sharing.alone_after_pop side (entry_of self.old)) (entry_of self.old) (spec.pop side self.old.seen.value)) }
+        ensures reply { OnOk result (text.new.items ≡ text.old.items ++ reply_of (spec.pop side self.old.seen.value)) }
+        ensures refused { OnErr result (text.new.items ≡ text.old.items) }
+    {
+        if self.alone {
+            return pop(&mut self.value, side, text, h);
+        }
+        if is_front(side, &self.value) {
+            return pop(&mut self.value, side, text, h);
+        }
+        let before = self.value.copy(h);
+        let result = pop(&mut self.value, side, text, h);
         self.alone = !same(&before, &self.value);
         before.end(h);
         result

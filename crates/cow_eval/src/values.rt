@@ -1,15 +1,17 @@
 // What the interpreter asks of a value.
-ghost use Rattle.std.specs.Prelude.{◌≡◌, is_some};
+ghost use Rattle.std.specs.Prelude.{◌≡◌, ◌^◌, ◌≤◌, ◌⊎◌, ◌++◌, true, false, is_some, IfOk, OnOk, OnErr};
 ghost use Rattle.cow_model.specs.Operation as operation;
 ghost use Rattle.cow_model.specs.Plain as plain;
 ghost use Rattle.cow_kinds.specs.Seen as kind;
-ghost use Rattle.cow_kinds.specs.Values.{plain_of};
+ghost use Rattle.cow_kinds.specs.Values.{plain_of, is_alone};
+ghost use Rattle.cow_kinds.specs.Answers.{verdict, value_after, reply_of};
 ghost use Rattle.cow_eval.specs.Entries.{refusal_or_full};
+ghost use Rattle.cow_eval.specs.Entries as entries;
 
 use cow_array::{Array, ArraySlice};
-use cow_cell::Stock;
+use cow_cell::{Holder, Stock};
 use cow_kinds::{Element, Value};
-use cow_model::Refusal;
+use cow_model::{NoMemory, Refusal, Side};
 
 /// The number of atoms.
 pub fn size<T: Element<Q>, Q: Stock>(value: &Value<T, Q>) -> usize
@@ -82,4 +84,34 @@ pub fn slice_refusal<T: Element<Q>, Q: Stock>(value: &Value<T, Q>, i: i64, j: i6
     } else {
         Refusal::OutOfRange
     }
+}
+
+/// Whether `pop` takes the first element of a slice, whose storage stays as it is.
+pub fn is_front<T: Element<Q>, Q: Stock>(side: Side, value: &Value<T, Q>) -> bool
+    ensures { result ≡ entries.is_front side (plain_of value.now) }
+{
+    match (side, value) {
+        (Side::First, Value::Slice(_)) => true,
+        _ => false,
+    }
+}
+
+/// `pop N END` on a value: a pop leaves no more elements than there were.
+pub fn pop<T: Element<Q>, Q: Stock>(
+    value: &mut Value<T, Q>,
+    side: Side,
+    text: &mut Vec<u8>,
+    h: &mut Holder<Q>,
+) -> Result<Result<(), Refusal>, NoMemory>
+    requires small { plain.count (plain_of value.old) ≤ plain.max_count }
+    requires spare { 2 ^ 39 ≤ h.old.spare }
+    ensures answer { IfOk result (λ r. r ≡ verdict (operation.pop side (plain_of value.old))) }
+    ensures value { OnOk result (plain_of value.new ≡ value_after (plain_of value.old) (operation.pop side (plain_of value.old))) }
+    ensures reply { OnOk result (text.new.items ≡ text.old.items ++ reply_of (operation.pop side (plain_of value.old))) }
+    ensures refused { OnErr result ((plain_of value.new ≡ plain_of value.old) × (text.new.items ≡ text.old.items)) }
+    ensures small { plain.count (plain_of value.new) ≤ plain.max_count }
+    ensures kept { is_alone value.old ≡ true → is_alone value.new ≡ true }
+    ensures changed { entries.is_front side (plain_of value.old) ≡ false → (plain_of value.new ≡ plain_of value.old) ⊎ (is_alone value.new ≡ true) }
+{
+    value.pop(side, text, h)
 }
