@@ -20,6 +20,7 @@ is_built (Statement-F.InsertAt l n i a) = true
 is_built (Statement-F.Remove l n x) = true
 is_built (Statement-F.Set l n i a) = true
 is_built (Statement-F.Get l n x) = true
+is_built (Statement-F.Pop l n side) = true
 is_built (Statement-F.Swap l n i j) = true
 is_built (Statement-F.Reverse l n) = true
 is_built (Statement-F.Splice l n i j atoms) = true

@@ -22,6 +22,7 @@ fn built(statement: &Statement) -> bool
         | Statement::Remove { .. }
         | Statement::Set { .. }
         | Statement::Get { .. }
+        | Statement::Pop { .. }
         | Statement::Swap { .. }
         | Statement::Reverse { .. }
         | Statement::Splice { .. }

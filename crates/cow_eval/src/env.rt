@@ -1,5 +1,5 @@
 // The environment of a block.
-ghost use Rattle.std.specs.Prelude.{◌≡◌, ◌≤◌, ◌++◌, ◌∷◌, [], map, true, IsOk, OnOk, OnErr};
+ghost use Rattle.std.specs.Prelude.{◌≡◌, ◌≤◌, ◌+◌, length, ◌++◌, ◌∷◌, [], map, true, IsOk, OnOk, OnErr};
 ghost use Rattle.cow_model.specs.Env as spec;
 ghost use Rattle.cow_model.specs.Plain.{count, max_count};
 ghost use Rattle.cow_model.specs.Step.{gives};
@@ -37,6 +37,16 @@ impl<T: Element<Q>, Q: Stock> Model for Env<T, Q> {
     ghost view = { λ e. record { names = e.names.items; room = e.room; allowed = e.allowed } };
 }
 
+// Gives the handles of values back.
+fn end_all<T: Element<Q>, Q: Stock>(names: Vec<Entry<T, Q>>, h: &mut Holder<Q>)
+    ensures { h.old.spare + length names.items ≤ h.new.spare }
+{
+    let mut names = names;
+    while let Some(entry) = names.pop() {
+        entry.end(h);
+    }
+}
+
 impl<T: Element<Q>, Q: Stock> Env<T, Q> {
     /// No names, 4,194,304 bytes of room for `show`, and nothing allowed yet. Takes no memory.
     pub fn new(alloc: Global) -> Env<T, Q>
@@ -54,6 +64,13 @@ impl<T: Element<Q>, Q: Stock> Env<T, Q> {
         ensures { result ≡ self.now.allowed }
     {
         self.allowed
+    }
+
+    /// Gives the handle of every value back: spare rises by at least the number of names.
+    pub fn end(self, h: &mut Holder<Q>)
+        ensures { h.old.spare + length self.names ≤ h.new.spare }
+    {
+        end_all(self.names, h);
     }
 
     // Whether a name may be given a value: it is there already, or fewer than 64 names are.

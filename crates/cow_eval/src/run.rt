@@ -11,7 +11,7 @@ ghost use Rattle.cow_eval.specs.Built.{is_built, IsBuilt};
 ghost use Rattle.cow_eval.specs.Envs.{env_of};
 
 use crate::env::Env;
-use crate::statement::{ask, ask_both, assign, change, change_key, discard, make, show, slice, sum};
+use crate::statement::{ask, ask_both, assign, change, change_key, discard, make, pop, show, slice, sum};
 use cow_cell::{Holder, Stock};
 use cow_kinds::Element;
 use cow_model::{NoMemory, Statement};
@@ -130,6 +130,7 @@ fn act<T: Element<Q>, Q: Stock>(
         }
         Statement::Discard { name, .. } => discard(name.as_slice(), env, h, text),
         Statement::Show { name, .. } => show(name.as_slice(), env, text),
+        Statement::Pop { name, side, .. } => pop(name.as_slice(), *side, env, h, text),
         _ => changing(alloc, statement, env, h, text),
     }
 }

@@ -1,6 +1,7 @@
 // One statement, as its definition says.
-ghost use Rattle.std.specs.Prelude.{◌≡◌, ◌++◌, ◌^◌, ◌≤◌, ◌+◌, IfOk, true, false, length, All, OnOk, OnErr};
+ghost use Rattle.std.specs.Prelude.{◌≡◌, ◌++◌, ◌^◌, ◌≤◌, ◌+◌, IfOk, IsOk, is_some, true, false, length, All, OnOk, OnErr};
 ghost use Rattle.cow_model.specs.Changes.{change_of, change_by_of, query_of, query_both_of};
+ghost use Rattle.cow_model.specs.Env.{place_of};
 ghost use Rattle.cow_model.specs.Literals.{FitsText};
 ghost use Rattle.cow_model.specs.Operation as operation;
 ghost use Rattle.cow_model.specs.Plain.{max_count};
@@ -16,7 +17,7 @@ use crate::env::Env;
 use crate::names::find;
 use cow_cell::{Holder, Stock};
 use cow_kinds::{Element, Value};
-use cow_model::{Kind, Literal, NoMemory, Refusal, Statement};
+use cow_model::{Kind, Literal, NoMemory, Refusal, Side, Statement};
 use std::alloc::Global;
 
 /// Appends the line of a refusal, whole or not at all.
@@ -112,6 +113,7 @@ pub fn discard<T: Element<Q>, Q: Stock>(
     h: &mut Holder<Q>,
     text: &mut Vec<u8>,
 ) -> Result<(), NoMemory>
+    ensures ended { is_some (place_of name.now (env_of env.old).names) ≡ true → IsOk result × (h.old.spare + 1 ≤ h.new.spare) }
     ensures env { OnOk result (env_of env.new ≡ (spec.discard_in (env_of env.old) name.now).env) }
     ensures text { OnOk result (text.new.items ≡ text.old.items ++ (spec.discard_in (env_of env.old) name.now).text) }
     ensures err { OnErr result (text.new.items ≡ text.old.items) }
@@ -273,6 +275,33 @@ pub fn change_key<T: Element<Q>, Q: Stock>(
     let entry = &mut env.names[at];
     let allowed = sum(env.allowed, entry.key_cost(key))?;
     match entry.change(alloc, statement, text, h)? {
+        Ok(()) => {
+            env.allowed = allowed;
+            Ok(())
+        }
+        Err(why) => refuse(text, why),
+    }
+}
+
+/// `pop N END`
+pub fn pop<T: Element<Q>, Q: Stock>(
+    name: &[u8],
+    side: Side,
+    env: &mut Env<T, Q>,
+    h: &mut Holder<Q>,
+    text: &mut Vec<u8>,
+) -> Result<(), NoMemory>
+    requires spare { 2 ^ 40 ≤ h.old.spare }
+    ensures env { OnOk result (env_of env.new ≡ (spec.pop_in (env_of env.old) name.now side).env) }
+    ensures text { OnOk result (text.new.items ≡ text.old.items ++ (spec.pop_in (env_of env.old) name.now side).text) }
+    ensures err { OnErr result (text.new.items ≡ text.old.items) }
+{
+    let Some(at) = find(&env.names, name) else {
+        return refuse(text, Refusal::NoName);
+    };
+    let entry = &mut env.names[at];
+    let allowed = sum(env.allowed, entry.pop_cost(side))?;
+    match entry.pop(side, text, h)? {
         Ok(()) => {
             env.allowed = allowed;
             Ok(())
