@@ -4,10 +4,11 @@ use Rattle.std.specs.Prelude.{slice_get, position}
 use Rattle.std.specs.List.{position_or_len}
 use Rattle.std.specs.Str.{bytes_eq}
 use Rattle.std.proofs.lemmas.Bool.{ltb-true}
-use Rattle.std.proofs.lemmas.List.{map-set, length-map, map-append, take-map, drop-map}
+use Rattle.std.proofs.lemmas.List.{length-set, map-set, length-map, map-append, take-map, drop-map}
 use Rattle.std.proofs.Math.ListN.{get_or-map}
 use Rattle.std.proofs.Math.Seq.{map-set_same}
 use Rattle.std.specs.List.{remove}
+use Rattle.std.proofs.lemmas.List.Folds.{position_or_len-set}
 use Rattle.std.proofs.lemmas.Option.{slice_get-get_or}
 use Rattle.std.proofs.lemmas.Slice.Eq.{bytes_eq-Decides}
 use Rattle.cow_model.specs.Lexis.{Text}
@@ -86,3 +87,10 @@ module _ (name : Text) (names : List Held) (at : ℕ) (e : Held) (place : spec.p
   -- another value in its place is given to that name
   pub give-there : (v : Seen) (flag : Bool) → map entry_of (set names at (record { name = e.name; seen = v; flag = flag })) ≡ spec.given (record { name = name; value = v.value; alone = flag }) (map entry_of names)
   give-there v flag = put-there (record { name = e.name; seen = v; flag = flag }) refl ∙ ap (λ n. spec.given (record { name = n; value = v.value; alone = flag }) (map entry_of names)) there.name_is
+
+  -- each name stands where it stood
+  pub still-there : (new : Text) (e' : Held) → e'.name ≡ e.name → spec.place_of new (map entry_of (set names at e')) ≡ spec.place_of new (map entry_of names)
+  still-there new e' same =
+      let there-now : entry_of e ≡ get_or (map entry_of names) at (entry_of e) = sym (get_or-map entry_of names at e ∙ ap entry_of (sym is)) in
+      let alike = ap (λ n. bytes_eq n new) same ∙ ap (λ (x : Entry). bytes_eq x.name new) there-now in
+      rw (map-set entry_of names at e', position_or_len-set (λ (x : Entry). bytes_eq x.name new) (map entry_of names) at (entry_of e') (entry_of e) alike, length-set (map entry_of names) at (entry_of e')) refl

@@ -83,3 +83,4 @@ unbuilt_line (s ∷ ss) = if is_built (out-Statement s) then unbuilt_line ss els
 -- a statement is built
 abbrev pub IsBuilt : Statement → Type 0
 IsBuilt s = is_built (out-Statement s) ≡ true
+

@@ -1,5 +1,5 @@
 // The environment of a block.
-ghost use Rattle.std.specs.Prelude.{◌≡◌, ◌≤◌, ◌+◌, length, ◌++◌, ◌∷◌, [], map, true, IsOk, OnOk, OnErr};
+ghost use Rattle.std.specs.Prelude.{◌≡◌, ◌≤◌, ◌+◌, length, ◌++◌, ◌∷◌, [], map, true, is_some, IsOk, OnOk, OnErr};
 ghost use Rattle.cow_model.specs.Env as spec;
 ghost use Rattle.cow_model.specs.Plain.{count, max_count};
 ghost use Rattle.cow_model.specs.Step.{gives};
@@ -119,6 +119,7 @@ impl<T: Element<Q>, Q: Stock> Env<T, Q> {
     ) -> Result<(), NoMemory>
         requires small { count (plain_of value) ≤ max_count }
         requires alone { alone ≡ true → is_alone value ≡ true }
+        ensures there { is_some (spec.place_of name.now (env_of self.old).names) ≡ true → IsOk result }
         ensures ok { OnOk result (env_of self.new ≡ gives name.now (plain_of value) alone (env_of self.old)) }
     {
         match find(&self.names, name) {

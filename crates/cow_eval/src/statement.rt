@@ -64,6 +64,7 @@ pub fn assign<T: Element<Q>, Q: Stock>(
     text: &mut Vec<u8>,
 ) -> Result<(), NoMemory>
     requires spare { 2 ^ 40 ≤ h.old.spare }
+    ensures there { is_some (place_of name.now (env_of env.old).names) ≡ true → is_some (place_of other.now (env_of env.old).names) ≡ true → IsOk result }
     ensures env { OnOk result (env_of env.new ≡ (spec.assign_in (env_of env.old) name.now other.now).env) }
     ensures text { OnOk result (text.new.items ≡ text.old.items ++ (spec.assign_in (env_of env.old) name.now other.now).text) }
     ensures err { OnErr result (text.new.items ≡ text.old.items) }
