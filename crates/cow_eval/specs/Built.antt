@@ -1,5 +1,7 @@
 -- The statements that are built.
-use Rattle.std.specs.Prelude.{◌≡◌, ℕ, Bool, true, false, List, [], ◌∷◌, All, Option, Some, None, if◌then◌else◌}
+use Rattle.std.specs.Prelude.{◌≡◌, ℕ, Bool, true, false, List, [], ◌∷◌, All, Option, Some, None, is_some, ⊤, if◌then◌else◌}
+use Rattle.cow_model.specs.Env.{place_of}
+use Rattle.cow_model.specs.declared.outcome.Entry.{Entry}
 use Rattle.cow_model.specs.Sharing.{Layer}
 use Rattle.cow_model.specs.declared.statement.Kind.{Kind}
 use Rattle.cow_model.specs.declared.statement.Kind.TheVariants as kind
@@ -84,3 +86,14 @@ unbuilt_line (s ∷ ss) = if is_built (out-Statement s) then unbuilt_line ss els
 abbrev pub IsBuilt : Statement → Type 0
 IsBuilt s = is_built (out-Statement s) ≡ true
 
+-- `let N = M` and `drop N`, which take no memory where their names are there
+abbrev pub is_free : Layer → Bool
+is_free (Statement-F.Assign l n m) = true
+is_free (Statement-F.Discard l n) = true
+is_free s = false
+
+-- those names are there
+abbrev pub AreThere : List Entry → Layer → Type 0
+AreThere names (Statement-F.Assign l n m) = (is_some (place_of n names) ≡ true) × (is_some (place_of m names) ≡ true)
+AreThere names (Statement-F.Discard l n) = is_some (place_of n names) ≡ true
+AreThere names s = ⊤

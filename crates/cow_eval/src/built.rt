@@ -84,9 +84,9 @@ fn line(statement: &Statement) -> u64
     }
 }
 
-/// The line of the first statement that isn't built. Takes no memory, and looks at each once.
-pub fn first_unbuilt(statements: &[Statement]) -> Option<u64>
-    ensures line { result ≡ spec.unbuilt_line statements.now }
+// The line of the first statement that isn't built.
+fn first_line(statements: &[Statement]) -> Option<u64>
+    ensures { result ≡ spec.unbuilt_line statements.now }
 {
     for statement in statements {
         if !built(statement) {
@@ -94,4 +94,13 @@ pub fn first_unbuilt(statements: &[Statement]) -> Option<u64>
         }
     }
     None
+}
+
+/// The line of the first statement that isn't built; `None` exactly where all are built. Takes no memory, and
+/// looks at each once.
+pub fn first_unbuilt(statements: &[Statement]) -> Option<u64>
+    ensures line { result ≡ spec.unbuilt_line statements.now }
+    ensures none { result ≡ None → All spec.IsBuilt statements.now }
+{
+    first_line(statements)
 }

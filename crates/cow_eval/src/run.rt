@@ -1,5 +1,5 @@
 // Statements in turn.
-ghost use Rattle.std.specs.Prelude.{◌≡◌, ◌++◌, ◌^◌, ◌≤◌, [], true, All, OnOk, OnErr};
+ghost use Rattle.std.specs.Prelude.{◌≡◌, ◌++◌, ◌^◌, ◌≤◌, [], true, All, IsOk, OnOk, OnErr};
 ghost use Rattle.cow_model.specs.Plain.{max_count};
 ghost use Rattle.cow_model.specs.Sharing as sharing;
 ghost use Rattle.cow_model.specs.Step as spec;
@@ -7,7 +7,7 @@ ghost use Rattle.cow_model.specs.declared.statement.Statement.{out-Statement};
 ghost use Rattle.cow_model.specs.Fronts.{GrowsWithin};
 ghost use Rattle.cow_model.specs.Run as run;
 ghost use Rattle.cow_kinds.specs.Atoms.{FitsTexts};
-ghost use Rattle.cow_eval.specs.Built.{is_built, IsBuilt};
+ghost use Rattle.cow_eval.specs.Built.{is_built, IsBuilt, is_free, AreThere};
 ghost use Rattle.cow_eval.specs.Envs.{env_of};
 
 use crate::env::Env;
@@ -25,7 +25,8 @@ const LEAST_SPARE: u64 = 0x100_0000_0000;
 
 // The literal atoms of a statement.
 fn literals(statement: &Statement) -> usize
-    ensures { result ≡ sharing.literals (out-Statement statement.now) }
+    ensures value { result ≡ sharing.literals (out-Statement statement.now) }
+    ensures free { is_free (out-Statement statement.now) ≡ true → result ≡ 0 }
 {
     match statement {
         Statement::Let { atoms, .. } | Statement::Splice { atoms, .. } => atoms.len(),
@@ -114,6 +115,7 @@ fn act<T: Element<Q>, Q: Stock>(
     requires texts { FitsTexts (out-Statement statement.now) }
     requires few { sharing.literals (out-Statement statement.now) ≤ max_count }
     requires spare { 2 ^ 40 ≤ h.old.spare }
+    ensures there { is_free (out-Statement statement.now) ≡ true → AreThere (env_of env.old).names (out-Statement statement.now) → IsOk result }
     ensures env { OnOk result (env_of env.new ≡ (spec.act (env_of env.old) [] (out-Statement statement.now)).env) }
     ensures text { OnOk result (text.new.items ≡ text.old.items ++ (spec.act (env_of env.old) [] (out-Statement statement.now)).text) }
     ensures err { OnErr result (text.new.items ≡ text.old.items) }
@@ -153,6 +155,7 @@ pub fn run_statement<T: Element<Q>, Q: Stock>(
     requires built { is_built (out-Statement statement.now) ≡ true }
     requires texts { FitsTexts (out-Statement statement.now) }
     requires spare { 2 ^ 40 ≤ h.old.spare }
+    ensures there { is_free (out-Statement statement.now) ≡ true → AreThere (env_of env.old).names (out-Statement statement.now) → IsOk result }
     ensures env { OnOk result (env_of env.new ≡ (spec.step (env_of env.old) [] (out-Statement statement.now)).env) }
     ensures text { OnOk result (text.new.items ≡ text.old.items ++ (spec.step (env_of env.old) [] (out-Statement statement.now)).text) }
     ensures err { OnErr result (text.new.items ≡ text.old.items) }

@@ -128,7 +128,8 @@ pub fn discard<T: Element<Q>, Q: Stock>(
 
 /// So many copies more. Want of memory stands for a number past 64 bits, which no script comes near.
 pub fn sum(allowed: u64, more: usize) -> Result<u64, NoMemory>
-    ensures { IfOk result (λ n. n ≡ allowed + more) }
+    ensures value { IfOk result (λ n. n ≡ allowed + more) }
+    ensures none { more ≡ 0 → IsOk result }
 {
     allowed.checked_add(more as u64).ok_or(NoMemory)
 }

@@ -1,6 +1,6 @@
 use Rattle.std.proofs.Common.{◌≡◌, drop}
 use Rattle.cow_eval.specs.Built.{unbuilt_line}
-use Rattle.cow_eval.proofs.built.first_unbuilt.Given as goal
+use Rattle.cow_eval.proofs.built.first_line.Given as goal
 
 -- the statements so far are built
 abbrev pub invariant-loop-statement : goal.invariant-loop-statement
