@@ -101,7 +101,10 @@ impl<T: Element<Q>, Q: Stock> Env<T, Q> {
                 return Err(NoMemory);
             }
         };
-        if let Err(failed) = self.names.push(Entry::new(Name::from_vec(bytes), value, alone)) {
+        if let Err(failed) = self
+            .names
+            .push(Entry::new(Name::from_vec(bytes), value, alone))
+        {
             failed.value.end(h);
             return Err(NoMemory);
         }

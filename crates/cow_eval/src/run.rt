@@ -11,7 +11,9 @@ ghost use Rattle.cow_eval.specs.Built.{is_built, IsBuilt, is_free, AreThere};
 ghost use Rattle.cow_eval.specs.Envs.{env_of};
 
 use crate::env::Env;
-use crate::statement::{ask, ask_both, assign, change, change_key, discard, make, pop, show, slice, sum};
+use crate::statement::{
+    ask, ask_both, assign, change, change_key, discard, make, pop, show, slice, sum,
+};
 use cow_cell::{Holder, Stock};
 use cow_kinds::Element;
 use cow_model::{NoMemory, Statement};
@@ -121,14 +123,42 @@ fn act<T: Element<Q>, Q: Stock>(
     ensures err { OnErr result (text.new.items ≡ text.old.items) }
 {
     match statement {
-        Statement::Let { name, kind, atoms, .. } => {
-            make(alloc, name.as_slice(), *kind, atoms.as_slice(), env, h, text)
+        Statement::Let {
+            name,
+            kind,
+            atoms,
+            ..
+        } => {
+            make(
+                alloc,
+                name.as_slice(),
+                *kind,
+                atoms.as_slice(),
+                env,
+                h,
+                text,
+            )
         }
         Statement::Assign { name, other, .. } => {
             assign(alloc, name.as_slice(), other.as_slice(), env, h, text)
         }
-        Statement::Slice { name, other, i, j, .. } => {
-            slice(alloc, name.as_slice(), other.as_slice(), *i, *j, env, h, text)
+        Statement::Slice {
+            name,
+            other,
+            i,
+            j,
+            ..
+        } => {
+            slice(
+                alloc,
+                name.as_slice(),
+                other.as_slice(),
+                *i,
+                *j,
+                env,
+                h,
+                text,
+            )
         }
         Statement::Discard { name, .. } => discard(name.as_slice(), env, h, text),
         Statement::Show { name, .. } => show(name.as_slice(), env, text),
