@@ -194,7 +194,8 @@ impl<T: Element<Q>, Q: Stock> Entry<T, Q> {
 
     /// Gives the handle of the value back.
     pub fn end(self, h: &mut Holder<Q>)
-        ensures { h.old.spare + 1 ≤ h.new.spare }
+        ensures spare { h.old.spare + 1 ≤ h.new.spare }
+        ensures copied { h.new.copied ≡ h.old.copied }
     {
         self.value.end(h);
     }

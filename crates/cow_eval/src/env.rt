@@ -39,7 +39,8 @@ impl<T: Element<Q>, Q: Stock> Model for Env<T, Q> {
 
 // Gives the handles of values back.
 fn end_all<T: Element<Q>, Q: Stock>(names: Vec<Entry<T, Q>>, h: &mut Holder<Q>)
-    ensures { h.old.spare + length names.items ≤ h.new.spare }
+    ensures spare { h.old.spare + length names.items ≤ h.new.spare }
+    ensures copied { h.new.copied ≡ h.old.copied }
 {
     let mut names = names;
     while let Some(entry) = names.pop() {
@@ -68,7 +69,8 @@ impl<T: Element<Q>, Q: Stock> Env<T, Q> {
 
     /// Gives the handle of every value back: spare rises by at least the number of names.
     pub fn end(self, h: &mut Holder<Q>)
-        ensures { h.old.spare + length self.names ≤ h.new.spare }
+        ensures spare { h.old.spare + length self.names ≤ h.new.spare }
+        ensures copied { h.new.copied ≡ h.old.copied }
     {
         end_all(self.names, h);
     }

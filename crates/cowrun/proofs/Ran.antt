@@ -4,15 +4,13 @@ use Rattle.std.specs.Prelude.{Option, Some, None}
 use Rattle.std.proofs.lemmas.List.{at_drop_more}
 use Rattle.std.specs.Io.KnownBytes.{Appends}
 use Rattle.cow_model.specs.Env.{start}
-use Rattle.cow_model.specs.Purse.{Purse}
-use Rattle.cow_model.specs.Run.{run_one, text_from, text_of, env_after, least_from, least_layer, least}
+use Rattle.cow_model.specs.Run.{run_one, text_from, text_of, env_after}
 use Rattle.cow_model.specs.declared.outcome.Environment.{Environment}
 use Rattle.cow_model.specs.declared.statement.Statement.{Statement, out-Statement}
 use Rattle.cow_eval.specs.Built.{is_built, line_of, unbuilt_line}
 use Rattle.cowrun.specs.Answer.{IsLine}
 use Rattle.cowrun.specs.Lines.{census_if}
 use Rattle.cowrun.specs.Output.{WritesFront, WritesLine}
-use Rattle.cowrun.specs.Runs.{Runs}
 use Rattle.cowrun.proofs.Known.{appends_more}
 
 -- some text was written, and what is to come completes the whole
@@ -46,11 +44,9 @@ pub next_rest : (block : List Statement) (i : ℕ) (s : Statement) → i < lengt
 next_rest block i s lt is = at_drop_more (λ x. x) block i s lt ∙ ap (λ x. x ∷ drop (i + 1) block) (sym is)
 
 -- how far the statements ss were run: `rest` is left of them
-pub record Stands (before now : Option (List ℕ)) (ss rest : List Statement) (env : Environment) (h : Purse) : Type 0 where
+pub record Stands (before now : Option (List ℕ)) (ss rest : List Statement) (env : Environment) : Type 0 where
   pub written : HasWritten before now (text_from env [] rest) (text_of ss [])
   pub ends : env_after env [] rest ≡ env_after start [] ss
-  pub no_less : least ss [] ≤ h.copied + least_from env [] rest
-  pub no_more : h.copied ≤ env.allowed
   pub built : unbuilt_line rest ≡ None
 
 -- the first of built statements is built, and so are the others
@@ -62,15 +58,12 @@ pub head_built : (s : Statement) (rest : List Statement) → unbuilt_line (s ∷
 head_built s rest p = first_is_built (is_built (out-Statement s)) rest (line_of (out-Statement s)) p
 
 -- one statement more
-pub stands_more : (before now after : Option (List ℕ)) (ss rest : List Statement) (s : Statement) (env env' : Environment) (h h' : Purse) → Stands before now ss (s ∷ rest) env h → Runs env s env' h h' → Appends now after (run_one env [] s).text → Stands before after ss rest env' h'
-stands_more before now after ss rest s env env' h h' st r a =
+pub stands_more : (before now after : Option (List ℕ)) (ss rest : List Statement) (s : Statement) (env env' : Environment) → Stands before now ss (s ∷ rest) env → env' ≡ (run_one env [] s).env → Appends now after (run_one env [] s).text → Stands before after ss rest env'
+stands_more before now after ss rest s env env' st is a =
     let more = written_more before now after (run_one env [] s).text (text_from (run_one env [] s).env [] rest) (text_of ss []) st.written a in
-    let same = ap (λ e. least_from e [] rest) r.env_is in
     record {
-      written = subst (λ e. HasWritten before after (text_from e [] rest) (text_of ss [])) (sym r.env_is) more;
-      ends = ap (λ e. env_after e [] rest) r.env_is ∙ st.ends;
-      no_less = omega (arith, st.no_less, r.least, same);
-      no_more = omega (arith, st.no_more, r.most);
+      written = subst (λ e. HasWritten before after (text_from e [] rest) (text_of ss [])) (sym is) more;
+      ends = ap (λ e. env_after e [] rest) is ∙ st.ends;
       built = (head_built s rest st.built).1;
     }
 

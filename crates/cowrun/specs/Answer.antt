@@ -5,7 +5,7 @@ use Rattle.cow_model.specs.Lexis.{Text}
 use Rattle.cow_model.specs.Fronts.{IsFrontOf}
 use Rattle.cow_model.specs.Parse.{script_of}
 use Rattle.cow_model.specs.Purse.{Purse}
-use Rattle.cow_model.specs.Run.{text_of, least, bound}
+use Rattle.cow_model.specs.Run.{text_of, bound}
 use Rattle.cow_model.specs.declared.fault.ParseFault.{ParseFault}
 use Rattle.cow_model.specs.declared.fault.ParseFault.TheVariants as fault
 use Rattle.cow_model.specs.declared.statement.Statement.{Statement}
@@ -58,13 +58,9 @@ IsLine sink_failed written text = (written ≡ text) ⊎ (sink_failed × IsFront
 abbrev pub whole_text : Bool → ℕ → List Statement → Text
 whole_text census copied ss = text_of ss [] ++ census_if census copied (bound ss [])
 
--- the copies of a run are at least those that the script has to make, and at most those that the sharing rule allows
-abbrev pub CopiesWithin : List Statement → ℕ → Type 0
-CopiesWithin ss copied = (least ss [] ≤ copied) × (copied ≤ bound ss [])
-
--- all of the input was read, is a built script, all that a run of it writes was written, and the copies are within their bounds
+-- all of the input was read, is a built script, and all that a run of it writes was written
 abbrev pub HasRun : (ended : Type 0) → Bool → Text → Text → Purse → Type 0
-HasRun ended census read written h = ended × ((ss : List Statement) × IsBuiltScript read ss × (written ≡ whole_text census h.copied ss) × CopiesWithin ss h.copied)
+HasRun ended census read written h = ended × ((ss : List Statement) × IsBuiltScript read ss × (written ≡ whole_text census h.copied ss))
 
 -- all of the input was read, is a built script, and a front of what a run of it writes was written
 abbrev pub HasRunInPart : (ended : Type 0) → Bool → Text → Text → Purse → Type 0

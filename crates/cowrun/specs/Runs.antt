@@ -1,23 +1,15 @@
 -- What the parts of a run do.
-use Rattle.std.specs.Prelude.{◌≡◌, ◌+◌, ◌≤◌, [], Bool, List, Option, Some, None, ⊤}
+use Rattle.std.specs.Prelude.{◌≡◌, Bool, List, Option, Some, None, ⊤}
 use Rattle.std.specs.Io.KnownBytes.{Appends}
 use Rattle.cow_model.specs.Fronts.{IsFrontOf}
 use Rattle.cow_model.specs.Lexis.{Text}
 use Rattle.cow_model.specs.Purse.{Purse}
-use Rattle.cow_model.specs.Run.{run_one, least_layer}
-use Rattle.cow_model.specs.declared.outcome.Environment.{Environment}
-use Rattle.cow_model.specs.declared.statement.Statement.{Statement, out-Statement}
+use Rattle.cow_model.specs.declared.statement.Statement.{Statement}
 use Rattle.cow_eval.specs.Built.{unbuilt_line}
-use Rattle.cowrun.specs.Answer.{stock_units, whole_text, CopiesWithin, Leaks, IsLine, Says}
+use Rattle.cowrun.specs.Answer.{stock_units, whole_text, Leaks, IsLine, Says}
 use Rattle.cowrun.specs.Lines.{not_built_text}
 use Rattle.cowrun.specs.declared.status.Status.{Status}
 use Rattle.cowrun.specs.declared.status.Status.TheVariants.{Ok, WriteFault, NoMemory, Leak, NotYet}
-
--- a statement was run: the environment is the one that the definitions give, and the copies are at least those that the statement has to make and at most those that the sharing rule allows it
-pub record Runs (env : Environment) (s : Statement) (after : Environment) (h h' : Purse) : Type 0 where
-  pub env_is : after ≡ (run_one env [] s).env
-  pub least : least_layer env (out-Statement s) + h.copied ≤ h'.copied
-  pub most : h'.copied + env.allowed ≤ h.copied + after.allowed
 
 -- whether all units came back
 abbrev pub SaysUnits : Purse → Status → Type 0
@@ -27,7 +19,7 @@ SaysUnits h status = ⊥
 
 -- all that a run of these statements writes was written
 abbrev pub HasDone : Bool → List Statement → Text → Purse → Type 0
-HasDone census ss written h = (unbuilt_line ss ≡ None) × (written ≡ whole_text census h.copied ss) × CopiesWithin ss h.copied
+HasDone census ss written h = (unbuilt_line ss ≡ None) × (written ≡ whole_text census h.copied ss)
 
 -- a front of it was written
 abbrev pub HasDoneInPart : Bool → List Statement → Text → Purse → Type 0

@@ -11,8 +11,8 @@ ghost use Rattle.cow_eval.specs.Envs.{env_of};
 ghost use Rattle.cow_port.specs.Causes.{Rose};
 ghost use Rattle.cowrun.specs.Input.{max_bytes};
 ghost use Rattle.cowrun.specs.Output.{WritesFront};
-ghost use Rattle.cowrun.specs.Answer.{Answers, CopiesWithin, whole_text};
-ghost use Rattle.cowrun.specs.Runs.{Runs, SaysUnits, StatementsAnswered, BytesAnswered};
+ghost use Rattle.cowrun.specs.Answer.{Answers, whole_text};
+ghost use Rattle.cowrun.specs.Runs.{SaysUnits, StatementsAnswered, BytesAnswered};
 
 use crate::fitting::fits;
 use crate::input::{ReadStop, read_all};
@@ -78,7 +78,7 @@ fn run_and_write<Q: Stock, K: Sink>(
     h: &mut Holder<Q>,
 ) -> Result<(), RunStop>
     requires built { is_built (out-Statement statement.now) ≡ true }
-    ensures run { OnOk result (Runs (env_of env.old) statement.now (env_of env.new) h.old h.new) }
+    ensures env { OnOk result (env_of env.new ≡ (run_one (env_of env.old) [] statement.now).env) }
     ensures ok { OnOk result (Appends (K.held sink.old) (K.held sink.new) (run_one (env_of env.old) [] statement.now).text) }
     ensures err { OnErr result (WritesFront (K.held sink.old) (K.held sink.new) (run_one (env_of env.old) [] statement.now).text) }
     ensures fault { IsErrOf result RunStop.WriteFault → Rose (K.faults sink.old) (K.faults sink.new) }
@@ -107,7 +107,6 @@ fn run_statements<Q: Stock, K: Sink>(
     ensures ok { OnOk result (Appends (K.held sink.old) (K.held sink.new) (text_of statements.now [])) }
     ensures err { OnErr result (WritesFront (K.held sink.old) (K.held sink.new) (text_of statements.now [])) }
     ensures allowed { OnOk result ((env_of env.new).allowed ≡ bound statements.now []) }
-    ensures copies { OnOk result (CopiesWithin statements.now h.new.copied) }
     ensures fault { IsErrOf result RunStop.WriteFault → Rose (K.faults sink.old) (K.faults sink.new) }
     ensures later { K.faults sink.old ≤ K.faults sink.new }
 {
@@ -130,7 +129,6 @@ fn run_script<Q: Stock, K: Sink>(
     requires fresh { h.old ≡ whole }
     ensures ok { OnOk result (Appends (K.held sink.old) (K.held sink.new) (whole_text census h.new.copied statements.now)) }
     ensures err { OnErr result (WritesFront (K.held sink.old) (K.held sink.new) (whole_text census h.new.copied statements.now)) }
-    ensures copies { OnOk result (CopiesWithin statements.now h.new.copied) }
     ensures fault { IsErrOf result RunStop.WriteFault → Rose (K.faults sink.old) (K.faults sink.new) }
     ensures later { K.faults sink.old ≤ K.faults sink.new }
 {

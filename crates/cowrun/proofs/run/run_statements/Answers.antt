@@ -10,9 +10,9 @@ loop-statement-preserved g c =
     let loop = c.loop-statement in
     let held = g.K.Sink.held in
     let next = next_rest c.args.statements.now loop.statement-index c.statement-item.result (search rules) c.statement-item.is in
-    let stands = subst (λ rest. Stands (held c.args.sink.now) (held loop.sink) c.args.statements.now rest (env_of loop.env) loop.h) next loop.invariant.1 in (
+    let stands = subst (λ rest. Stands (held c.args.sink.now) (held loop.sink) c.args.statements.now rest (env_of loop.env)) next loop.invariant.1 in (
       omega (arith, loop.invariant.0, c.run_and_write.ensures.later),
-      stands_more _ _ _ _ _ _ _ _ _ _ stands c.in_ok-run_and_write.ensures.run c.in_ok-run_and_write.ensures.ok,
+      stands_more _ _ _ _ _ _ _ _ stands c.in_ok-run_and_write.ensures.env c.in_ok-run_and_write.ensures.ok,
     )
 
 pub returns-in_err-run_and_write-clause-err : goal.returns-in_err-run_and_write-clause-err
@@ -21,5 +21,5 @@ returns-in_err-run_and_write-clause-err g c =
     let loop = c.loop-statement in
     let held = g.K.Sink.held in
     let next = next_rest c.args.statements.now loop.statement-index c.statement-item.result (search rules) c.statement-item.is in
-    let stands = subst (λ rest. Stands (held c.args.sink.now) (held loop.sink) c.args.statements.now rest (env_of loop.env) loop.h) next loop.invariant.1 in
+    let stands = subst (λ rest. Stands (held c.args.sink.now) (held loop.sink) c.args.statements.now rest (env_of loop.env)) next loop.invariant.1 in
     rw p.1 (front_more (held c.args.sink.now) (held loop.sink) (held c.run_and_write.new.sink) _ _ (text_of c.args.statements.now []) stands.written c.in_err-run_and_write.ensures.err)

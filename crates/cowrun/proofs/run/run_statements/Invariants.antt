@@ -8,4 +8,4 @@ invariant-loop-statement g l =
     let held = g.K.Sink.held in
     let faults = g.K.Sink.faults in
     (faults l.fn.sink ≤ faults l.sink)
-    × Stands (held l.fn.sink) (held l.sink) l.statements (drop l.statement-index l.statements) (env_of l.env) l.h
+    × Stands (held l.fn.sink) (held l.sink) l.statements (drop l.statement-index l.statements) (env_of l.env)
