@@ -18,13 +18,7 @@ fn options(words: &[&str]) -> Option<bool>
 {
     match *words {
         [] | [_, _, _, ..] => None,
-        [first] => {
-            if first == "run" {
-                Some(false)
-            } else {
-                None
-            }
-        }
+        [first] => { if first == "run" { Some(false) } else { None } }
         [first, second] => {
             if first == "run" && second == "--census" {
                 Some(true)

@@ -34,8 +34,9 @@ pub fn fits(statement: &Statement) -> bool
     ensures { IsTrue result → FitsTexts (out-Statement statement.now) }
 {
     match statement {
-        Statement::Let { atoms, .. }
-        | Statement::Splice { atoms, .. } => fits_all(atoms.as_slice()),
+        Statement::Let { atoms, .. } | Statement::Splice { atoms, .. } => fits_all(
+            atoms.as_slice(),
+        ),
         Statement::Append { atom, .. }
         | Statement::Prepend { atom, .. }
         | Statement::Insert { atom, .. }

@@ -41,7 +41,8 @@ fn over_limit(quantity: u64, bound: u64) -> Line
     let mut line = Line::new();
     line.try_extend_from_slice(b": ").unwrap();
     put_number(&mut line, quantity);
-    line.try_extend_from_slice(b" is over the limit of ").unwrap();
+    line.try_extend_from_slice(b" is over the limit of ")
+        .unwrap();
     put_number(&mut line, bound);
     line.try_extend_from_slice(b"\n").unwrap();
     line

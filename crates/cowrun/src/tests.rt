@@ -58,12 +58,7 @@ fn run_on<S: Source, K: Sink>(
 }
 
 /// A sink with room for what it is given, that takes at most `most` bytes a call.
-fn sink_of(
-    alloc: Global,
-    room: usize,
-    most: usize,
-    failing: Vec<u64>,
-) -> Result<MemorySink, Fail> {
+fn sink_of(alloc: Global, room: usize, most: usize, failing: Vec<u64>) -> Result<MemorySink, Fail> {
     Ok(MemorySink {
         bytes: Vec::with_capacity(alloc, room)?,
         most,

@@ -48,6 +48,7 @@ const ENDS: &[&str] = &["first", "first", "last", "last", "min"];
 
 /// How many scripts are run, and how many lines each has.
 const SCRIPTS: u64 = 2_500;
+
 const LINES: u64 = 24;
 
 /// A sequence of numbers that its first number tells.
@@ -109,10 +110,12 @@ fn is_as_told(alloc: Global, script: &[u8], told: &Told) -> Result<bool, Fail> {
     let census = format!(in alloc; "copied {copied} of at most {}\n", told.bound)?;
     let mut text = Vec::from_slice(alloc, told.text.as_slice())?;
     text.extend_from_slice(census.as_bytes())?;
-    Ok(ran.ended.status == Status::Ok
-        && told.least <= copied
-        && copied <= told.bound
-        && ran.text.as_slice() == text.as_slice())
+    Ok(
+        ran.ended.status == Status::Ok
+            && told.least <= copied
+            && copied <= told.bound
+            && ran.text.as_slice() == text.as_slice(),
+    )
 }
 
 #[test]
