@@ -2,12 +2,12 @@
 ghost use Rattle.std.specs.Prelude.{◌≡◌, ◌≤◌, OnOk, OnErr};
 ghost use Rattle.std.specs.Io.KnownBytes.{Appends};
 ghost use Rattle.cow_port.specs.Causes.{Rose};
+ghost use Rattle.cowrun.specs.Lines.{usage_text, not_built_text, fault_text, census_if};
 ghost use Rattle.cowrun.specs.Output.{WritesFront, WritesLine};
-ghost use Rattle.cowrun.specs.Answer.{usage_text, not_built_text};
 
-use arrayvec::ArrayVec;
+use crate::lines::{census_line, fault_line, not_built_line};
 use cow_port::{Failed, Sink};
-use itoa::Buffer;
+use cow_script::ParseFault;
 
 /// The line that tells how the program is used.
 const USAGE: &[u8] = b"usage: cowrun run [--workers w] [--census] | make SEED N | judge\n";
@@ -36,17 +36,38 @@ pub fn write_usage<K: Sink>(sink: &mut K)
     let _ = write_all(sink, USAGE);
 }
 
-/// Writes the line that names a line of no form. A write that fails there is told by the sink's faults
+/// Writes the line of a statement that isn't built. A write that fails there is told by the sink's faults
 /// alone. Takes no memory.
 pub fn write_not_built<K: Sink>(sink: &mut K, line: u64)
     ensures line { WritesLine (K.held sink.old) (K.held sink.new) (Rose (K.faults sink.old) (K.faults sink.new)) (not_built_text line) }
     ensures later { K.faults sink.old ≤ K.faults sink.new }
 {
-    let mut number = Buffer::new();
-    let mut text: ArrayVec<u8, 64> = ArrayVec::new();
-    text.try_extend_from_slice(b"line ").unwrap();
-    text.try_extend_from_slice(number.format(line).as_bytes())
-        .unwrap();
-    text.try_extend_from_slice(b": not built\n").unwrap();
-    let _ = write_all(sink, text.as_slice());
+    let _ = write_all(sink, not_built_line(line).as_slice());
+}
+
+/// Writes the line of a fault of the script. A write that fails there is told by the sink's faults alone.
+/// Takes no memory.
+pub fn write_fault<K: Sink>(sink: &mut K, fault: ParseFault)
+    ensures line { WritesLine (K.held sink.old) (K.held sink.new) (Rose (K.faults sink.old) (K.faults sink.new)) (fault_text fault) }
+    ensures later { K.faults sink.old ≤ K.faults sink.new }
+{
+    let _ = write_all(sink, fault_line(fault).as_slice());
+}
+
+/// Writes the line of the census in one piece, where it is asked for. Takes no memory.
+pub fn write_census<K: Sink>(
+    sink: &mut K,
+    census: bool,
+    copied: u64,
+    most: u64,
+) -> Result<(), Failed>
+    ensures ok { OnOk result (Appends (K.held sink.old) (K.held sink.new) (census_if census copied most)) }
+    ensures err { OnErr result (WritesFront (K.held sink.old) (K.held sink.new) (census_if census copied most)) }
+    ensures failed { OnErr result (Rose (K.faults sink.old) (K.faults sink.new)) }
+    ensures later { K.faults sink.old ≤ K.faults sink.new }
+{
+    if !census {
+        return write_all(sink, &[]);
+    }
+    write_all(sink, census_line(copied, most).as_slice())
 }

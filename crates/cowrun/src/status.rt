@@ -1,20 +1,25 @@
+use cow_script::ParseFault;
 use std::process::ExitCode;
 
 /// How a run ended.
 #[derive(Clone, Copy, Debug, PartialEq, Eq)]
 pub enum Status {
-    /// The script was read to its end and run, and all that it prints was written.
+    /// The script was read to its end and run, all that it prints was written, and all units came back.
     Ok,
-    /// The words aren't the one word `run`.
+    /// The words are no option.
     Usage,
+    /// What is wrong with the first faulty line, or, as a limit of line 0, that the script is longer than
+    /// 1,048,576 bytes. Nothing of it ran.
+    Script(ParseFault),
     /// The source failed. Nothing was written.
     ReadFault,
-    /// The sink failed. A front of what the script prints was written.
+    /// The sink failed. A front of what the run writes was written.
     WriteFault,
-    /// Memory ran out. A front of what the script prints was written.
+    /// Memory ran out. A front of what the run writes was written.
     NoMemory,
-    /// The first line that is of no form, or 0 where the script is longer than 1,048,576 bytes. Nothing of
-    /// it ran.
+    /// As `Ok`, but `spare` of the `stock` units came back.
+    Leak { spare: u64, stock: u64 },
+    /// The first line of the script that isn't built. Nothing of it ran.
     NotYet { line: u64 },
 }
 
@@ -29,9 +34,11 @@ impl Status {
         match self {
             Status::Ok => 0,
             Status::Usage => 2,
+            Status::Script(_) => 3,
             Status::ReadFault => 4,
             Status::WriteFault => 5,
             Status::NoMemory => 6,
+            Status::Leak { .. } => 7,
             Status::NotYet { .. } => 9,
         }
     }

@@ -1,12 +1,13 @@
 use Rattle.std.proofs.Common.{refl, inl, ap, Err}
-use Rattle.cowrun.specs.Answer.{not_built_text}
+use Rattle.cowrun.specs.Answer.{too_long}
+use Rattle.cowrun.specs.Lines.{fault_text}
 use Rattle.cowrun.proofs.Ran.{line_written}
 use Rattle.cowrun.proofs.run.run.Goals as goal
 
 pub returns-in-Err-TooLong-clause-answer : goal.returns-in-Err-TooLong-clause-answer
 returns-in-Err-TooLong-clause-answer g c =
     let much = c.in-Err-TooLong.ensures.too_long (ap Err c.in-Err-TooLong.field-0-is) in
-    let line = line_written _ _ _ (not_built_text 0) c.write_not_built.ensures.line in
+    let line = line_written _ _ _ (fault_text too_long) c.write_fault.ensures.line in
     record {
       read = much.0;
       written = line.0;

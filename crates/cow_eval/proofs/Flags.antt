@@ -1,0 +1,184 @@
+-- The flag of an entry after a change of its value.
+use Rattle.std.proofs.Common.{◌≡◌, ℕ, ◌-◌, take, [], ◌∷◌, ◌≤◌, ◌⊎◌, inl, inr, Bool, true, false, not, ◌||◌, List, length, Result, Ok, Err, refl, ap, sym, ◌∙◌, arith, leb, if◌then◌else◌}
+use Rattle.std.specs.Prelude.{OnOk, OnErr}
+use Rattle.std.proofs.lemmas.Bool.{leb-true, le-leb}
+use Rattle.std.proofs.lemmas.List.{length-take}
+use Rattle.std.proofs.lemmas.Grind.{common_steps}
+use Rattle.cow_model.specs.Operation.{Answer, fitting, pop, slice_popped}
+use Rattle.cow_model.specs.Plain.{count, max_count, same_plain}
+use Rattle.cow_model.specs.Sharing.{alone_after, alone_after_pop_of}
+use Rattle.cow_model.specs.declared.memory.NoMemory.{NoMemory}
+use Rattle.cow_model.specs.declared.outcome.Entry.{Entry}
+use Rattle.cow_model.specs.declared.outcome.Done.{Done}
+use Rattle.cow_model.specs.declared.refusal.Refusal.TheVariants.{Full}
+use Rattle.cow_model.specs.declared.plain.Literal.{Literal}
+use Rattle.cow_model.specs.declared.statement.Side.{Side}
+use Rattle.cow_model.specs.declared.statement.Side.TheVariants as side
+use Rattle.cow_model.specs.declared.value.Plain.{Plain}
+use Rattle.cow_model.specs.declared.value.Plain.TheVariants as plain
+use Rattle.cow_kinds.specs.Answers.{value_after}
+use Rattle.cow_kinds.specs.Seen.{Seen, StaysAlone, pop_alone}
+use Rattle.cow_kinds.specs.Values.{seen, plain_of}
+use Rattle.cow_kinds.specs.declared.value.Value.{Value}
+use Rattle.cow_kinds.specs.declared.value.Value.TheVariants as value
+use Rattle.cow_kinds.proofs.Equals.{tells-same}
+use Rattle.cow_eval.specs.Envs.{Held, IsKept, entry_of}
+use Rattle.cow_eval.specs.Entries.{entry_after, is_front}
+
+-- a value is one with itself
+pub same-self : {T Q : Type 0} (v : Value T Q) → same_plain (plain_of v) (plain_of v) ≡ true
+same-self (value.Array a) = sym (tells-same true a.value a.value (λ _. refl, λ _. refl))
+same-self (value.Slice s) = rw (← tells-same true s.value.items s.value.items (λ _. refl, λ _. refl)) (search (arith))
+
+fits-if : (b : Bool) (v : Plain) (d : Done) → (b ≡ true → count d.value ≤ max_count) → count v ≤ max_count → count (value_after v (if b then Ok d else Err Full)) ≤ max_count
+fits-if true v d fits small = fits refl
+fits-if false v d fits small = small
+
+-- a fitting answer leaves at most 65,536 elements
+pub fits : (v : Plain) (a : Answer) → count v ≤ max_count → count (value_after v (fitting a)) ≤ max_count
+fits v (Ok d) small = fits-if (leb (count d.value) max_count) v d (leb-true (count d.value) max_count) small
+fits v (Err why) small = small
+
+-- so does a call that gives it or keeps the value
+pub small-after : {X : Type 0} (r : Result X NoMemory) (v v' : Plain) (a : Answer) → OnOk r (v' ≡ value_after v (fitting a)) → OnErr r (v' ≡ v) → count v ≤ max_count → count v' ≤ max_count
+small-after (Ok x) v v' a ok err small = rw ok (fits v a small)
+small-after (Err x) v v' a ok err small = rw err small
+
+pub first-of : {X E : Type 0} (A B : Type 0) (r : Result X E) → OnErr r (A × B) → OnErr r A
+first-of A B (Ok x) h = _
+first-of A B (Err x) h = h.0
+
+true-false : true ≡ false → ⊥
+true-false h = cc
+
+differs : (s b : Bool) (after : Seen) (x y : Plain) → (x ≡ y → b ≡ true) → s ≡ b → s ≡ false → (x ≡ y) ⊎ (after.alone ≡ true) → after.alone ≡ true
+differs s b after x y one told false-s (inl e) = absurd (true-false (sym (one e) ∙ (sym told ∙ false-s)))
+differs s b after x y one told false-s (inr a) = a
+
+no-true : (s : Bool) → not s ≡ true → s ≡ false
+no-true true h = cc
+no-true false h = refl
+
+-- a value that was compared and differs is alone
+pub alone-compared : {T Q : Type 0} (v : Value T Q) (before after : Seen) (s : Bool) → StaysAlone before after → before.value ≡ plain_of v → s ≡ same_plain (plain_of v) after.value → not s ≡ true → after.alone ≡ true
+alone-compared v before after s stays is told h =
+    differs s (same_plain (plain_of v) after.value) after after.value before.value (λ e. rw (e, is) (same-self v)) told (no-true s h) stays.changed
+
+flag-alone : (e : Entry) (v' : Plain) (a : Answer) → e.alone ≡ true → v' ≡ value_after e.value a → (record { name = e.name; value = v'; alone = e.alone }) ≡ entry_after (alone_after e) e a
+flag-alone e v' (Ok d) is value = rw (value, is) refl
+flag-alone e v' (Err why) is value = rw value refl
+
+-- an entry that was alone
+pub entry-alone : {X : Type 0} (r : Result X NoMemory) (e : Entry) (v' : Plain) (a : Answer) → e.alone ≡ true → OnOk r (v' ≡ value_after e.value a) → OnOk r ((record { name = e.name; value = v'; alone = e.alone }) ≡ entry_after (alone_after e) e a)
+entry-alone (Ok x) e v' a is value = flag-alone e v' a is value
+entry-alone (Err x) e v' a is value = _
+
+flag-compared : (e : Entry) (v' : Plain) (s : Bool) (a : Answer) → e.alone ≡ false → same_plain e.value e.value ≡ true → v' ≡ value_after e.value a → s ≡ same_plain e.value v' → (record { name = e.name; value = v'; alone = not s }) ≡ entry_after (alone_after e) e a
+flag-compared e v' s (Ok d) is self value told = rw (told, value, is) refl
+flag-compared e v' s (Err why) is self value told =
+    let flag : not s ≡ e.alone = rw (told, value, self) (sym is) in
+    rw value (ap (λ b. record { name = e.name; value = e.value; alone = b }) flag)
+
+-- an entry that was compared
+pub entry-compared : {X : Type 0} (r : Result X NoMemory) (e : Entry) (v' : Plain) (s : Bool) (a : Answer) → e.alone ≡ false → same_plain e.value e.value ≡ true → OnOk r (v' ≡ value_after e.value a) → s ≡ same_plain e.value v' → OnOk r ((record { name = e.name; value = v'; alone = not s }) ≡ entry_after (alone_after e) e a)
+entry-compared (Ok x) e v' s a is self value told = flag-compared e v' s a is self value told
+entry-compared (Err x) e v' s a is self value told = _
+
+fits-same : (d : Done) → count d.value ≤ max_count → fitting (Ok d) ≡ Ok d
+fits-same d h = rw (le-leb (count d.value) max_count h) refl
+
+shorter : (items : List Literal) (k : ℕ) → length items ≤ max_count → length (take k items) ≤ max_count
+shorter items k h = rw (length-take k items) (omega arith)
+
+slice-fits : (start : ℕ) (items : List Literal) → length items ≤ max_count → fitting (slice_popped start items) ≡ slice_popped start items
+slice-fits start [] h = refl
+slice-fits start (a ∷ items) h = fits-same _ (omega arith)
+
+-- a pop leaves no more elements than there were
+pub pop-fits : {T Q : Type 0} (w : Value T Q) (s : Side) → count (plain_of w) ≤ max_count → fitting (pop s (plain_of w)) ≡ pop s (plain_of w)
+pop-fits (value.Array a) side.Last h = fits-same _ (shorter a.value (length a.value - 1) h)
+pop-fits (value.Array a) side.First h = refl
+pop-fits (value.Array a) side.Min h = refl
+pop-fits (value.Array a) side.Max h = refl
+pop-fits (value.Slice s) side.First h = slice-fits s.value.start s.value.items h
+pop-fits (value.Slice s) side.Last h = refl
+pop-fits (value.Slice s) side.Min h = refl
+pop-fits (value.Slice s) side.Max h = refl
+
+-- what a pop does to the knowledge that a value is alone
+pub pop-kept : {T Q : Type 0} (w : Value T Q) (before after : Seen) → pop_alone (plain_of w) before after → before.alone ≡ true → after.alone ≡ true
+pop-kept (value.Array a) before after h = h.kept
+pop-kept (value.Slice s) before after h = h
+
+-- a pop that isn't of a slice's front
+pub pop-changed : {T Q X : Type 0} (w : Value T Q) (s : Side) (r : Result X NoMemory) (after : Seen) → is_front s (plain_of w) ≡ false → pop_alone (plain_of w) (seen w) after →
+    OnOk r (after.value ≡ value_after (plain_of w) (pop s (plain_of w))) → OnErr r (after.value ≡ plain_of w) → (after.value ≡ plain_of w) ⊎ (after.alone ≡ true)
+pop-changed (value.Array a) s r after f h ok err = h.changed
+pop-changed (value.Slice v) side.First r after f h ok err = cc
+pop-changed (value.Slice v) side.Last (Ok x) after f h ok err = inl ok
+pop-changed (value.Slice v) side.Last (Err x) after f h ok err = inl err
+pop-changed (value.Slice v) side.Min (Ok x) after f h ok err = inl ok
+pop-changed (value.Slice v) side.Min (Err x) after f h ok err = inl err
+pop-changed (value.Slice v) side.Max (Ok x) after f h ok err = inl ok
+pop-changed (value.Slice v) side.Max (Err x) after f h ok err = inl err
+
+-- the flag after a pop that isn't of a slice's front
+pub after-pop : {T Q : Type 0} (w : Value T Q) (s : Side) (e : Entry) (x : Plain) → is_front s (plain_of w) ≡ false → alone_after_pop_of s (plain_of w) e x ≡ alone_after e x
+after-pop (value.Array a) side.First e x f = refl
+after-pop (value.Array a) side.Last e x f = refl
+after-pop (value.Array a) side.Min e x f = refl
+after-pop (value.Array a) side.Max e x f = refl
+after-pop (value.Slice a) side.First e x f = cc
+after-pop (value.Slice a) side.Last e x f = refl
+after-pop (value.Slice a) side.Min e x f = refl
+after-pop (value.Slice a) side.Max e x f = refl
+
+pub front-kept : {T Q : Type 0} (w : Value T Q) (s : Side) (e : Entry) (x : Plain) → is_front s (plain_of w) ≡ true → alone_after_pop_of s (plain_of w) e x ≡ e.alone
+front-kept (value.Array a) side.First e x f = cc
+front-kept (value.Array a) side.Last e x f = cc
+front-kept (value.Array a) side.Min e x f = cc
+front-kept (value.Array a) side.Max e x f = cc
+front-kept (value.Slice a) side.First e x f = refl
+front-kept (value.Slice a) side.Last e x f = cc
+front-kept (value.Slice a) side.Min e x f = cc
+front-kept (value.Slice a) side.Max e x f = cc
+
+or-true : (a b : Bool) → a ≡ true → (a || b) ≡ a
+or-true true b h = refl
+or-true false b h = cc
+
+pub alone-kept : {T Q : Type 0} (w : Value T Q) (s : Side) (e : Entry) (x : Plain) → e.alone ≡ true → alone_after_pop_of s (plain_of w) e x ≡ e.alone
+alone-kept (value.Array a) side.First e x f = or-true e.alone _ f
+alone-kept (value.Array a) side.Last e x f = or-true e.alone _ f
+alone-kept (value.Array a) side.Min e x f = or-true e.alone _ f
+alone-kept (value.Array a) side.Max e x f = or-true e.alone _ f
+alone-kept (value.Slice a) side.First e x f = refl
+alone-kept (value.Slice a) side.Last e x f = or-true e.alone _ f
+alone-kept (value.Slice a) side.Min e x f = or-true e.alone _ f
+alone-kept (value.Slice a) side.Max e x f = or-true e.alone _ f
+
+kept-entry : (e : Entry) (v' : Plain) (alone : Plain → Bool) (a : Answer) → ((x : Plain) → alone x ≡ e.alone) → v' ≡ value_after e.value a → (record { name = e.name; value = v'; alone = e.alone }) ≡ entry_after alone e a
+kept-entry e v' alone (Ok d) same value = rw (value, same d.value) refl
+kept-entry e v' alone (Err why) same value = rw value refl
+
+-- an entry whose flag a pop keeps
+pub entry-kept : {X : Type 0} (r : Result X NoMemory) (e : Entry) (v' : Plain) (alone : Plain → Bool) (a : Answer) → ((x : Plain) → alone x ≡ e.alone) → OnOk r (v' ≡ value_after e.value a) → OnOk r ((record { name = e.name; value = v'; alone = e.alone }) ≡ entry_after alone e a)
+entry-kept (Ok x) e v' alone a same value = kept-entry e v' alone a same value
+entry-kept (Err x) e v' alone a same value = _
+
+swap-flag : (e : Entry) (alone other : Plain → Bool) (a : Answer) → ((x : Plain) → alone x ≡ other x) → entry_after other e a ≡ entry_after alone e a
+swap-flag e alone other (Ok d) same = rw (same d.value) refl
+swap-flag e alone other (Err why) same = refl
+
+-- an entry that a pop compared
+pub entry-popped : {X : Type 0} (r : Result X NoMemory) (e e' : Entry) (alone other : Plain → Bool) (a : Answer) → ((x : Plain) → alone x ≡ other x) → OnOk r (e' ≡ entry_after other e a) → OnOk r (e' ≡ entry_after alone e a)
+entry-popped (Ok x) e e' alone other a same is = is ∙ swap-flag e alone other a same
+entry-popped (Err x) e e' alone other a same is = _
+
+by-change : (s : Bool) (v v' : Plain) (after : Seen) → same_plain v v ≡ true → (v' ≡ v) ⊎ (after.alone ≡ true) → s ≡ same_plain v v' → not s ≡ true → after.alone ≡ true
+by-change s v v' after self (inl e) told h = absurd (true-false (sym self ∙ (ap (λ x. same_plain v x) (sym e) ∙ (sym told ∙ no-true s h))))
+by-change s v v' after self (inr a) told h = a
+
+-- a popped value that was compared and differs is alone
+pub alone-popped : {T Q : Type 0} (w : Value T Q) (after : Seen) (s : Bool) → (after.value ≡ plain_of w) ⊎ (after.alone ≡ true) → s ≡ same_plain (plain_of w) after.value → not s ≡ true → after.alone ≡ true
+alone-popped w after s changed told h = by-change s (plain_of w) after.value after (same-self w) changed told h

@@ -1,0 +1,6 @@
+pub mod FirstLine
+pub mod Flags
+pub mod Growth
+pub mod Places
+pub mod Results
+pub mod Steps

@@ -1,0 +1,41 @@
+use Rattle.std.proofs.Common.{◌≡◌, refl, ap}
+use Rattle.cow_model.specs.Changes.{change_of}
+use Rattle.cow_model.specs.Operation.{fitting}
+use Rattle.cow_model.specs.declared.statement.Statement.{out-Statement}
+use Rattle.cow_kinds.specs.Values.{seen, plain_of}
+use Rattle.cow_eval.specs.Envs.{entry_of}
+use Rattle.cow_eval.proofs.Flags.{small-after, first-of, entry-alone, entry-compared, alone-compared, same-self}
+use Rattle.cow_eval.proofs.entry.Entry.change.Goals as goal
+
+pub invariant_of-self : goal.invariant_of-self
+invariant_of-self g c =
+    let v = c.self.inside.value in
+    record {
+      alone = λ f. c.change.ensures.alone.kept (c.self.invariant.alone f);
+      small = small-after c.change.result (plain_of v) (plain_of c.change.new.self) (change_of (out-Statement c.args.statement.now) (plain_of v)) c.change.ensures.value (first-of _ _ c.change.result c.change.ensures.refused) c.self.invariant.small;
+    }
+
+pub returns-then-self-clause-entry : goal.returns-then-self-clause-entry
+returns-then-self-clause-entry g c =
+    let v = c.self.inside.value in
+    rw (← c.self.view_is) (entry-alone c.change.result (record { name = c.self.inside.name; value = plain_of v; alone = c.self.inside.alone }) (plain_of c.change.new.self) (fitting (change_of (out-Statement c.args.statement.now) (plain_of v))) c.if-self.true c.change.ensures.value)
+
+pub invariant_of-self-2 : goal.invariant_of-self-2
+invariant_of-self-2 g c =
+    let v = c.self.inside.value in
+    let r = c.change-result in
+    let same : plain_of c.copy-before.new.self ≡ plain_of v = ap (λ s. s.value) c.copy-before.ensures.same in
+    let value = rw same at r.ensures.value in
+    let refused = rw same at r.ensures.refused in
+    record {
+      alone = alone-compared v (seen c.copy-before.new.self) (seen r.new.self) c.same.result r.ensures.alone same (rw c.same.ensures (rw c.copy-before.ensures.copy refl));
+      small = small-after r.result (plain_of v) (plain_of r.new.self) (change_of (out-Statement c.args.statement.now) (plain_of v)) value (first-of _ _ r.result refused) c.self.invariant.small;
+    }
+
+pub returns-clause-entry : goal.returns-clause-entry
+returns-clause-entry g c =
+    let v = c.self.inside.value in
+    let r = c.change-result in
+    let same : plain_of c.copy-before.new.self ≡ plain_of v = ap (λ s. s.value) c.copy-before.ensures.same in
+    let value = rw same at r.ensures.value in
+    rw (← c.self.view_is) (entry-compared r.result (record { name = c.self.inside.name; value = plain_of v; alone = c.self.inside.alone }) (plain_of r.new.self) c.same.result (fitting (change_of (out-Statement c.args.statement.now) (plain_of v))) c.if-self.false (same-self v) value (rw c.same.ensures (rw c.copy-before.ensures.copy refl)))

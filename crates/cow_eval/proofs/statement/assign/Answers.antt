@@ -1,0 +1,31 @@
+use Rattle.std.proofs.Common.{◌++◌, refl, ap, sym, ◌∙◌}
+use Rattle.std.proofs.lemmas.List.{append-nil}
+use Rattle.cow_kinds.specs.Values.{plain_of}
+use Rattle.cow_eval.specs.Envs.{entry_of}
+use Rattle.cow_eval.proofs.Results.{always, on-ok}
+use Rattle.cow_eval.proofs.Places.{still-there}
+use Rattle.cow_eval.proofs.Steps.{assigned}
+use Rattle.cow_eval.proofs.statement.assign.Goals as goal
+
+pub returns-clause-env : goal.returns-clause-env
+returns-clause-env g c =
+    let found = rw c.deref.ensures.value at c.find.ensures in
+    let free = sym c.has_place.ensures ∙ c.if-not-has_place.false in
+    let room = rw (← c.env.view_is) at free in
+    let did = assigned (record { names = c.env.inside.names.items; room = c.env.inside.room; allowed = c.env.inside.allowed }) c.args.other.now c.in-Some.from c.index_mut.result.now (sym found ∙ c.in-Some.is) c.index_mut.ensures.value c.args.name.now c.copy-value.new.self (plain_of c.copy-value.result) (ap entry_of c.copy-value.ensures.entry) (ap (λ s. s.value) c.copy-value.ensures.copy) room in
+    rw (← c.env.view_is, ← did.env) c.give.ensures.ok
+
+pub returns-clause-text : goal.returns-clause-text
+returns-clause-text g c =
+    let found = rw c.deref.ensures.value at c.find.ensures in
+    let free = sym c.has_place.ensures ∙ c.if-not-has_place.false in
+    let room = rw (← c.env.view_is) at free in
+    let did = assigned (record { names = c.env.inside.names.items; room = c.env.inside.room; allowed = c.env.inside.allowed }) c.args.other.now c.in-Some.from c.index_mut.result.now (sym found ∙ c.in-Some.is) c.index_mut.ensures.value c.args.name.now c.copy-value.new.self (plain_of c.copy-value.result) (ap entry_of c.copy-value.ensures.entry) (ap (λ s. s.value) c.copy-value.ensures.copy) room in
+    always _ c.give.result (rw (← c.env.view_is, ← did.text) (sym (append-nil c.args.text.now.items)))
+
+pub returns-clause-there : goal.returns-clause-there
+returns-clause-there g c = λ one two.
+    let found = rw c.deref.ensures.value at c.find.ensures in
+    let still = still-there c.args.other.now c.env.inside.names.items c.in-Some.from c.index_mut.result.now (sym found ∙ c.in-Some.is) c.index_mut.ensures.value c.args.name.now c.copy-value.new.self (ap (λ e. e.name) c.copy-value.ensures.entry) in
+    let first = rw (← c.env.view_is) at one in
+    c.give.ensures.there (rw still first)

@@ -1,0 +1,52 @@
+use Rattle.std.proofs.Common.{refl, ap, sym, ◌∙◌, w64}
+use Rattle.std.proofs.lemmas.Int.{to_z-of_z}
+use Rattle.std.proofs.lemmas.List.{append-nil}
+use Rattle.cow_model.specs.declared.outcome.Environment.{Environment}
+use Rattle.cow_kinds.specs.Values.{plain_of}
+use Rattle.cow_eval.specs.Envs.{entry_of}
+use Rattle.cow_eval.proofs.Places.{same-there}
+use Rattle.cow_eval.proofs.Results.{always}
+use Rattle.cow_eval.proofs.Steps.{no-room, uncut, cut}
+use Rattle.cow_eval.proofs.statement.slice.Goals as goal
+
+pub returns-then-not-has_place-clause-text : goal.returns-then-not-has_place-clause-text
+returns-then-not-has_place-clause-text g c =
+    let found = rw c.deref.ensures.value at c.find.ensures in
+    let full = sym c.has_place.ensures ∙ c.if-not-has_place.true in
+    let room = rw (← c.env.view_is) at full in
+    let did = no-room (record { names = c.env.inside.names.items; room = c.env.inside.room; allowed = c.env.inside.allowed }) c.args.other.now c.in-Some.from c.index.result.now (sym found ∙ c.in-Some.is) c.index.ensures c.args.name.now c.args.i c.args.j room in
+    let said = rw (to_z-of_z w64 c.args.i c.ranges.i, to_z-of_z w64 c.args.j c.ranges.j) at c.slice_refusal.ensures in
+    rw (← c.env.view_is, ← did.text, ← said) c.refuse-then-not-has_place.ensures.ok
+
+pub returns-in-Err-clause-env : goal.returns-in-Err-clause-env
+returns-in-Err-clause-env g c =
+    let found = rw c.deref.ensures.value at c.find.ensures in
+    let said = rw (to_z-of_z w64 c.args.i c.ranges.i, to_z-of_z w64 c.args.j c.ranges.j) at c.in-Err.ensures.answer in
+    let did = uncut (record { names = c.env.inside.names.items; room = c.env.inside.room; allowed = c.env.inside.allowed }) c.args.other.now c.in-Some.from c.index_mut.result.now (sym found ∙ c.in-Some.is) c.index_mut.ensures.value c.args.name.now c.args.i c.args.j c.in-Err.why said in
+    let same = same-there c.args.other.now c.env.inside.names.items c.in-Some.from c.index_mut.result.now (sym found ∙ c.in-Some.is) c.index_mut.ensures.value c.slice.new.self (ap entry_of c.in-Err.ensures.refused.0) in
+    always _ c.refuse-in-Err.result (rw (← c.env.view_is) (ap {B = Environment} (λ names. record { names = names; room = c.env.inside.room; allowed = c.env.inside.allowed }) same ∙ did.env))
+
+pub returns-in-Err-clause-text : goal.returns-in-Err-clause-text
+returns-in-Err-clause-text g c =
+    let found = rw c.deref.ensures.value at c.find.ensures in
+    let said = rw (to_z-of_z w64 c.args.i c.ranges.i, to_z-of_z w64 c.args.j c.ranges.j) at c.in-Err.ensures.answer in
+    let did = uncut (record { names = c.env.inside.names.items; room = c.env.inside.room; allowed = c.env.inside.allowed }) c.args.other.now c.in-Some.from c.index_mut.result.now (sym found ∙ c.in-Some.is) c.index_mut.ensures.value c.args.name.now c.args.i c.args.j c.in-Err.why said in
+    rw (← c.env.view_is, ← did.text) c.refuse-in-Err.ensures.ok
+
+pub returns-in-Ok-clause-env : goal.returns-in-Ok-clause-env
+returns-in-Ok-clause-env g c =
+    let found = rw c.deref.ensures.value at c.find.ensures in
+    let free = sym c.has_place.ensures ∙ c.if-not-has_place.false in
+    let room = rw (← c.env.view_is) at free in
+    let said = rw (to_z-of_z w64 c.args.i c.ranges.i, to_z-of_z w64 c.args.j c.ranges.j) at c.in-Ok.ensures.answer in
+    let did = cut (record { names = c.env.inside.names.items; room = c.env.inside.room; allowed = c.env.inside.allowed }) c.args.other.now c.in-Some.from c.index_mut.result.now (sym found ∙ c.in-Some.is) c.index_mut.ensures.value c.args.name.now c.args.i c.args.j c.slice.new.self (plain_of c.in-Ok.value) (ap entry_of c.in-Ok.ensures.entry) said room in
+    rw (← c.env.view_is, ← did.env) c.give.ensures.ok
+
+pub returns-in-Ok-clause-text : goal.returns-in-Ok-clause-text
+returns-in-Ok-clause-text g c =
+    let found = rw c.deref.ensures.value at c.find.ensures in
+    let free = sym c.has_place.ensures ∙ c.if-not-has_place.false in
+    let room = rw (← c.env.view_is) at free in
+    let said = rw (to_z-of_z w64 c.args.i c.ranges.i, to_z-of_z w64 c.args.j c.ranges.j) at c.in-Ok.ensures.answer in
+    let did = cut (record { names = c.env.inside.names.items; room = c.env.inside.room; allowed = c.env.inside.allowed }) c.args.other.now c.in-Some.from c.index_mut.result.now (sym found ∙ c.in-Some.is) c.index_mut.ensures.value c.args.name.now c.args.i c.args.j c.slice.new.self (plain_of c.in-Ok.value) (ap entry_of c.in-Ok.ensures.entry) said room in
+    always _ c.give.result (rw (← c.env.view_is, ← did.text) (sym (append-nil c.args.text.now.items)))

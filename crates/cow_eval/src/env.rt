@@ -1,0 +1,138 @@
+// The environment of a block.
+ghost use Rattle.std.specs.Prelude.{◌≡◌, ◌≤◌, ◌+◌, length, ◌++◌, ◌∷◌, [], map, true, is_some, IsOk, OnOk, OnErr};
+ghost use Rattle.cow_model.specs.Env as spec;
+ghost use Rattle.cow_model.specs.Plain.{count, max_count};
+ghost use Rattle.cow_model.specs.Step.{gives};
+ghost use Rattle.cow_kinds.specs.Values.{plain_of, is_alone};
+ghost use Rattle.cow_eval.specs.Envs.{entry_of, env_of};
+
+use crate::entry::Entry;
+use crate::names::find;
+use cow_cell::{Holder, Stock};
+use cow_kinds::{Element, Value};
+use cow_model::{Name, NoMemory};
+use std::alloc::Global;
+use std::marker::Model;
+
+/// The most names of an environment.
+const MAX_NAMES: usize = 64;
+
+/// The bytes that `show` may print in one block.
+const MAX_SHOWN: u64 = 4_194_304;
+
+/// The names of a block with their values, how many bytes `show` may still print, and how many copies the
+/// sharing rule has allowed.
+#[derive(Drop)]
+pub struct Env<T: Element<Q>, Q: Stock> {
+    pub(crate) names: Vec<Entry<T, Q>>,
+    pub(crate) room: u64,
+    pub(crate) allowed: u64,
+}
+
+impl<T: Element<Q>, Q: Stock> Model for Env<T, Q> {
+    ghost use Rattle.cow_eval.specs.Envs.{Envs};
+
+    ghost Value = { Envs };
+
+    ghost view = { λ e. record { names = e.names.items; room = e.room; allowed = e.allowed } };
+}
+
+// Gives the handles of values back.
+fn end_all<T: Element<Q>, Q: Stock>(names: Vec<Entry<T, Q>>, h: &mut Holder<Q>)
+    ensures spare { h.old.spare + length names.items ≤ h.new.spare }
+    ensures copied { h.new.copied ≡ h.old.copied }
+{
+    let mut names = names;
+    while let Some(entry) = names.pop() {
+        entry.end(h);
+    }
+}
+
+impl<T: Element<Q>, Q: Stock> Env<T, Q> {
+    /// No names, 4,194,304 bytes of room for `show`, and nothing allowed yet. Takes no memory.
+    pub fn new(alloc: Global) -> Env<T, Q>
+        ensures { env_of result ≡ spec.start }
+    {
+        Env {
+            names: Vec::new(alloc),
+            room: MAX_SHOWN,
+            allowed: 0,
+        }
+    }
+
+    /// How many copies the sharing rule has allowed so far.
+    pub fn allowed(&self) -> u64
+        ensures { result ≡ self.now.allowed }
+    {
+        self.allowed
+    }
+
+    /// Gives the handle of every value back: spare rises by at least the number of names.
+    pub fn end(self, h: &mut Holder<Q>)
+        ensures spare { h.old.spare + length self.names ≤ h.new.spare }
+        ensures copied { h.new.copied ≡ h.old.copied }
+    {
+        end_all(self.names, h);
+    }
+
+    // Whether a name may be given a value: it is there already, or fewer than 64 names are.
+    pub(crate) fn has_place(&self, name: &[u8]) -> bool
+        ensures { result ≡ spec.has_place name.now (env_of self.now).names }
+    {
+        find(&self.names, name).is_some() || self.names.len() < MAX_NAMES
+    }
+
+    // Gives a new name its value, behind all others. Want of memory gives the handle back.
+    fn push(
+        &mut self,
+        alloc: Global,
+        name: &[u8],
+        value: Value<T, Q>,
+        alone: bool,
+        h: &mut Holder<Q>,
+    ) -> Result<(), NoMemory>
+        requires small { count (plain_of value) ≤ max_count }
+        requires alone { alone ≡ true → is_alone value ≡ true }
+        ensures ok { OnOk result (env_of self.new ≡ record (env_of self.old) { names = (env_of self.old).names ++ (record { name = name.now; value = plain_of value; alone = alone }) ∷ [] }) }
+        ensures err { OnErr result (self.new ≡ self.old) }
+    {
+        let bytes = match Vec::from_slice(alloc, name) {
+            Ok(bytes) => bytes,
+            Err(_) => {
+                value.end(h);
+                return Err(NoMemory);
+            }
+        };
+        if let Err(failed) = self
+            .names
+            .push(Entry::new(Name::from_vec(bytes), value, alone))
+        {
+            failed.value.end(h);
+            return Err(NoMemory);
+        }
+        Ok(())
+    }
+
+    // Gives a name a value. A name that is there takes no memory; the handle of its old value is given back.
+    pub(crate) fn give(
+        &mut self,
+        alloc: Global,
+        name: &[u8],
+        value: Value<T, Q>,
+        alone: bool,
+        h: &mut Holder<Q>,
+    ) -> Result<(), NoMemory>
+        requires small { count (plain_of value) ≤ max_count }
+        requires alone { alone ≡ true → is_alone value ≡ true }
+        ensures there { is_some (spec.place_of name.now (env_of self.old).names) ≡ true → IsOk result }
+        ensures ok { OnOk result (env_of self.new ≡ gives name.now (plain_of value) alone (env_of self.old)) }
+    {
+        match find(&self.names, name) {
+            Some(at) => {
+                self.names[at].put_value(value, alone, h);
+                Ok(())
+            }
+            None => self.push(alloc, name, value, alone, h),
+        }
+    }
+}

@@ -1,0 +1,245 @@
+// Statements in turn.
+ghost use Rattle.std.specs.Prelude.{◌≡◌, ◌++◌, ◌^◌, ◌≤◌, [], true, All, IsOk, OnOk, OnErr};
+ghost use Rattle.cow_model.specs.Plain.{max_count};
+ghost use Rattle.cow_model.specs.Sharing as sharing;
+ghost use Rattle.cow_model.specs.Step as spec;
+ghost use Rattle.cow_model.specs.declared.statement.Statement.{out-Statement};
+ghost use Rattle.cow_model.specs.Fronts.{GrowsWithin};
+ghost use Rattle.cow_model.specs.Run as run;
+ghost use Rattle.cow_kinds.specs.Atoms.{FitsTexts};
+ghost use Rattle.cow_eval.specs.Built.{is_built, IsBuilt, is_free, AreThere};
+ghost use Rattle.cow_eval.specs.Envs.{env_of};
+
+use crate::env::Env;
+use crate::statement::{
+    ask, ask_both, assign, change, change_key, discard, make, pop, show, slice, sum,
+};
+use cow_cell::{Holder, Stock};
+use cow_kinds::Element;
+use cow_model::{NoMemory, Statement};
+use std::alloc::Global;
+
+/// The most literal atoms of a statement: as many as a value has elements.
+const MAX_ATOMS: usize = 65_536;
+
+/// The spare that a statement asks for.
+const LEAST_SPARE: u64 = 0x100_0000_0000;
+
+// The literal atoms of a statement.
+fn literals(statement: &Statement) -> usize
+    ensures value { result ≡ sharing.literals (out-Statement statement.now) }
+    ensures free { is_free (out-Statement statement.now) ≡ true → result ≡ 0 }
+{
+    match statement {
+        Statement::Let { atoms, .. } | Statement::Splice { atoms, .. } => atoms.len(),
+        Statement::Append { .. }
+        | Statement::Prepend { .. }
+        | Statement::Insert { .. }
+        | Statement::InsertAt { .. }
+        | Statement::Update { .. }
+        | Statement::Remove { .. }
+        | Statement::Set { .. }
+        | Statement::Get { .. }
+        | Statement::Has { .. }
+        | Statement::Place { .. }
+        | Statement::Replace { .. } => 1,
+        Statement::Put { .. } => 2,
+        _ => 0,
+    }
+}
+
+// What a statement that reads values does.
+fn asking<T: Element<Q>, Q: Stock>(
+    statement: &Statement,
+    env: &mut Env<T, Q>,
+    text: &mut Vec<u8>,
+) -> Result<(), NoMemory>
+    requires built { is_built (out-Statement statement.now) ≡ true }
+    ensures env { OnOk result (env_of env.new ≡ (spec.asking (env_of env.old) (out-Statement statement.now)).env) }
+    ensures text { OnOk result (text.new.items ≡ text.old.items ++ (spec.asking (env_of env.old) (out-Statement statement.now)).text) }
+    ensures err { OnErr result (text.new.items ≡ text.old.items) }
+{
+    match statement {
+        Statement::Count { name, .. } | Statement::Get { name, .. } => {
+            ask(statement, name.as_slice(), env, text)
+        }
+        Statement::Equal { name, other, .. } => {
+            ask_both(statement, name.as_slice(), other.as_slice(), env, text)
+        }
+        _ => Ok(()),
+    }
+}
+
+// What a statement that changes values does.
+fn changing<T: Element<Q>, Q: Stock>(
+    alloc: Global,
+    statement: &Statement,
+    env: &mut Env<T, Q>,
+    h: &mut Holder<Q>,
+    text: &mut Vec<u8>,
+) -> Result<(), NoMemory>
+    requires built { is_built (out-Statement statement.now) ≡ true }
+    requires texts { FitsTexts (out-Statement statement.now) }
+    requires few { sharing.literals (out-Statement statement.now) ≤ max_count }
+    requires spare { 2 ^ 40 ≤ h.old.spare }
+    ensures env { OnOk result (env_of env.new ≡ (spec.changing (env_of env.old) (out-Statement statement.now)).env) }
+    ensures text { OnOk result (text.new.items ≡ text.old.items ++ (spec.changing (env_of env.old) (out-Statement statement.now)).text) }
+    ensures err { OnErr result (text.new.items ≡ text.old.items) }
+{
+    match statement {
+        Statement::Insert { name, atom, .. } | Statement::Remove { name, atom, .. } => {
+            change_key(alloc, statement, name.as_slice(), atom, env, h, text)
+        }
+        Statement::Append { name, .. }
+        | Statement::InsertAt { name, .. }
+        | Statement::Set { name, .. }
+        | Statement::Swap { name, .. }
+        | Statement::Reverse { name, .. }
+        | Statement::Splice { name, .. }
+        | Statement::Reserve { name, .. }
+        | Statement::Clear { name, .. }
+        | Statement::Rebase { name, .. } => {
+            change(alloc, statement, name.as_slice(), env, h, text)
+        }
+        _ => asking(statement, env, text),
+    }
+}
+
+// What a statement does once its literals are allowed.
+fn act<T: Element<Q>, Q: Stock>(
+    alloc: Global,
+    statement: &Statement,
+    env: &mut Env<T, Q>,
+    h: &mut Holder<Q>,
+    text: &mut Vec<u8>,
+) -> Result<(), NoMemory>
+    requires built { is_built (out-Statement statement.now) ≡ true }
+    requires texts { FitsTexts (out-Statement statement.now) }
+    requires few { sharing.literals (out-Statement statement.now) ≤ max_count }
+    requires spare { 2 ^ 40 ≤ h.old.spare }
+    ensures there { is_free (out-Statement statement.now) ≡ true → AreThere (env_of env.old).names (out-Statement statement.now) → IsOk result }
+    ensures env { OnOk result (env_of env.new ≡ (spec.act (env_of env.old) [] (out-Statement statement.now)).env) }
+    ensures text { OnOk result (text.new.items ≡ text.old.items ++ (spec.act (env_of env.old) [] (out-Statement statement.now)).text) }
+    ensures err { OnErr result (text.new.items ≡ text.old.items) }
+{
+    match statement {
+        Statement::Let {
+            name,
+            kind,
+            atoms,
+            ..
+        } => {
+            make(
+                alloc,
+                name.as_slice(),
+                *kind,
+                atoms.as_slice(),
+                env,
+                h,
+                text,
+            )
+        }
+        Statement::Assign { name, other, .. } => {
+            assign(alloc, name.as_slice(), other.as_slice(), env, h, text)
+        }
+        Statement::Slice {
+            name,
+            other,
+            i,
+            j,
+            ..
+        } => {
+            slice(
+                alloc,
+                name.as_slice(),
+                other.as_slice(),
+                *i,
+                *j,
+                env,
+                h,
+                text,
+            )
+        }
+        Statement::Discard { name, .. } => discard(name.as_slice(), env, h, text),
+        Statement::Show { name, .. } => show(name.as_slice(), env, text),
+        Statement::Pop { name, side, .. } => pop(name.as_slice(), *side, env, h, text),
+        _ => changing(alloc, statement, env, h, text),
+    }
+}
+
+/// Runs one statement: appends what it prints to `text`, and leaves the environment after it.
+///
+/// A statement looks at each of the at most 64 names. `let N = M`, a slice and `drop` are one step beside that;
+/// a change is linear in the elements at most.
+///
+/// Errors: `NoMemory` alone. The text is then as it was, and of the environment nothing is said but that it
+/// can be ended. It stands also for a statement of more than 65,536 literals, and for numbers of copies past
+/// 64 bits, which no script comes near.
+pub fn run_statement<T: Element<Q>, Q: Stock>(
+    alloc: Global,
+    statement: &Statement,
+    env: &mut Env<T, Q>,
+    h: &mut Holder<Q>,
+    text: &mut Vec<u8>,
+) -> Result<(), NoMemory>
+    requires built { is_built (out-Statement statement.now) ≡ true }
+    requires texts { FitsTexts (out-Statement statement.now) }
+    requires spare { 2 ^ 40 ≤ h.old.spare }
+    ensures there { is_free (out-Statement statement.now) ≡ true → AreThere (env_of env.old).names (out-Statement statement.now) → IsOk result }
+    ensures env { OnOk result (env_of env.new ≡ (spec.step (env_of env.old) [] (out-Statement statement.now)).env) }
+    ensures text { OnOk result (text.new.items ≡ text.old.items ++ (spec.step (env_of env.old) [] (out-Statement statement.now)).text) }
+    ensures err { OnErr result (text.new.items ≡ text.old.items) }
+{
+    let atoms = literals(statement);
+    if atoms > MAX_ATOMS {
+        return Err(NoMemory);
+    }
+    env.allowed = sum(env.allowed, atoms)?;
+    act(alloc, statement, env, h, text)
+}
+
+// A statement of a block.
+fn run_one<T: Element<Q>, Q: Stock>(
+    alloc: Global,
+    statement: &Statement,
+    env: &mut Env<T, Q>,
+    h: &mut Holder<Q>,
+    text: &mut Vec<u8>,
+) -> Result<(), NoMemory>
+    requires built { IsBuilt statement.now }
+    requires texts { FitsTexts (out-Statement statement.now) }
+    ensures env { OnOk result (env_of env.new ≡ (run.run_one (env_of env.old) [] statement.now).env) }
+    ensures text { OnOk result (text.new.items ≡ text.old.items ++ (run.run_one (env_of env.old) [] statement.now).text) }
+    ensures err { OnErr result (text.new.items ≡ text.old.items) }
+{
+    if h.spare() < LEAST_SPARE {
+        return Err(NoMemory);
+    }
+    match statement {
+        Statement::Fork { .. } => unreachable!(),
+        _ => run_statement(alloc, statement, env, h, text),
+    }
+}
+
+/// Runs statements in turn: appends what they print to `text`, and leaves the environment after them.
+///
+/// Errors: `NoMemory` alone. The text then grew by a front of what `Ok` would have printed. It stands also
+/// for a spare of fewer than 2^40 units before a statement, which no script comes near.
+pub fn run_block<T: Element<Q>, Q: Stock>(
+    alloc: Global,
+    block: &[Statement],
+    env: &mut Env<T, Q>,
+    h: &mut Holder<Q>,
+    text: &mut Vec<u8>,
+) -> Result<(), NoMemory>
+    requires built { All IsBuilt block.now }
+    requires texts { All (λ s. FitsTexts (out-Statement s)) block.now }
+    ensures env { OnOk result (env_of env.new ≡ run.env_after (env_of env.old) [] block.now) }
+    ensures text { OnOk result (text.new.items ≡ text.old.items ++ run.text_from (env_of env.old) [] block.now) }
+    ensures err { OnErr result (GrowsWithin text.old.items text.new.items (run.text_from (env_of env.old) [] block.now)) }
+{
+    for statement in block {
+        run_one(alloc, statement, env, h, text)?;
+    }
+    Ok(())
+}

@@ -1,0 +1,117 @@
+// What the interpreter asks of a value.
+ghost use Rattle.std.specs.Prelude.{◌≡◌, ◌^◌, ◌≤◌, ◌⊎◌, ◌++◌, true, false, is_some, IfOk, OnOk, OnErr};
+ghost use Rattle.cow_model.specs.Operation as operation;
+ghost use Rattle.cow_model.specs.Plain as plain;
+ghost use Rattle.cow_kinds.specs.Seen as kind;
+ghost use Rattle.cow_kinds.specs.Values.{plain_of, is_alone};
+ghost use Rattle.cow_kinds.specs.Answers.{verdict, value_after, reply_of};
+ghost use Rattle.cow_eval.specs.Entries.{refusal_or_full};
+ghost use Rattle.cow_eval.specs.Entries as entries;
+
+use cow_array::{Array, ArraySlice};
+use cow_cell::{Holder, Stock};
+use cow_kinds::{Element, Value};
+use cow_model::{NoMemory, Refusal, Side};
+
+/// The number of atoms.
+pub fn size<T: Element<Q>, Q: Stock>(value: &Value<T, Q>) -> usize
+    ensures size { result ≡ plain.size (plain_of value.now) }
+    ensures count { result ≡ plain.count (plain_of value.now) }
+{
+    match value {
+        Value::Array(a) => a.count(),
+        Value::Slice(s) => s.count(),
+    }
+}
+
+/// The index behind the last element.
+pub fn stop<T: Element<Q>, Q: Stock>(value: &Value<T, Q>) -> usize
+    ensures { result ≡ kind.stop (plain_of value.now) }
+{
+    match value {
+        Value::Array(a) => a.count(),
+        Value::Slice(s) => s.stop(),
+    }
+}
+
+// Whether two arrays are one.
+fn same_arrays<T: Element<Q>, Q: Stock>(a: &Array<T, Q>, b: &Array<T, Q>) -> bool
+    ensures { result ≡ plain.same_items a.now.value b.now.value }
+{
+    a.equals(b)
+}
+
+// Whether two slices have the same elements.
+fn same_slices<T: Element<Q>, Q: Stock>(s: &ArraySlice<T, Q>, t: &ArraySlice<T, Q>) -> bool
+    ensures { result ≡ plain.same_items s.now.value.items t.now.value.items }
+{
+    s.equals(t)
+}
+
+/// Whether two values are one: of one kind, and with the same contents. Linear in their elements.
+pub fn same<T: Element<Q>, Q: Stock>(value: &Value<T, Q>, other: &Value<T, Q>) -> bool
+    ensures { result ≡ plain.same_plain (plain_of value.now) (plain_of other.now) }
+{
+    match (value, other) {
+        (Value::Array(a), Value::Array(b)) => same_arrays(a, b),
+        (Value::Slice(s), Value::Slice(t)) => s.start() == t.start() && same_slices(s, t),
+        _ => false,
+    }
+}
+
+// Whether two positions are those of a stretch of n elements.
+fn is_stretch(n: usize, i: i64, j: i64) -> bool
+    ensures { result ≡ is_some (operation.stretch n i j) }
+{
+    let Ok(start) = u64::try_from(i) else {
+        return false;
+    };
+    let Ok(end) = u64::try_from(j) else {
+        return false;
+    };
+    start <= end && end <= n as u64
+}
+
+/// Why no slice is made where no name can be given.
+pub fn slice_refusal<T: Element<Q>, Q: Stock>(value: &Value<T, Q>, i: i64, j: i64) -> Refusal
+    ensures { result ≡ refusal_or_full (operation.slice i j (plain_of value.now)) }
+{
+    let Value::Array(a) = value else {
+        return Refusal::WrongKind;
+    };
+    if is_stretch(a.count(), i, j) {
+        Refusal::Full
+    } else {
+        Refusal::OutOfRange
+    }
+}
+
+/// Whether `pop` takes the first element of a slice, whose storage stays as it is.
+pub fn is_front<T: Element<Q>, Q: Stock>(side: Side, value: &Value<T, Q>) -> bool
+    ensures { result ≡ entries.is_front side (plain_of value.now) }
+{
+    match (side, value) {
+        (Side::First, Value::Slice(_)) => true,
+        _ => false,
+    }
+}
+
+/// `pop N END` on a value: a pop leaves no more elements than there were.
+pub fn pop<T: Element<Q>, Q: Stock>(
+    value: &mut Value<T, Q>,
+    side: Side,
+    text: &mut Vec<u8>,
+    h: &mut Holder<Q>,
+) -> Result<Result<(), Refusal>, NoMemory>
+    requires small { plain.count (plain_of value.old) ≤ plain.max_count }
+    requires spare { 2 ^ 39 ≤ h.old.spare }
+    ensures answer { IfOk result (λ r. r ≡ verdict (operation.pop side (plain_of value.old))) }
+    ensures value { OnOk result (plain_of value.new ≡ value_after (plain_of value.old) (operation.pop side (plain_of value.old))) }
+    ensures reply { OnOk result (text.new.items ≡ text.old.items ++ reply_of (operation.pop side (plain_of value.old))) }
+    ensures refused { OnErr result ((plain_of value.new ≡ plain_of value.old) × (text.new.items ≡ text.old.items)) }
+    ensures small { plain.count (plain_of value.new) ≤ plain.max_count }
+    ensures kept { is_alone value.old ≡ true → is_alone value.new ≡ true }
+    ensures changed { entries.is_front side (plain_of value.old) ≡ false → (plain_of value.new ≡ plain_of value.old) ⊎ (is_alone value.new ≡ true) }
+{
+    value.pop(side, text, h)
+}

@@ -1,5 +1,0 @@
-pub mod Atoms
-pub mod CutTexts
-pub mod Digits
-pub mod LinesRead
-pub mod Rows
