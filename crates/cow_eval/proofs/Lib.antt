@@ -1,3 +1,4 @@
+pub mod Apart
 pub mod FirstLine
 pub mod Flags
 pub mod Growth

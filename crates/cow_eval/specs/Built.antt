@@ -29,6 +29,7 @@ is_built (Statement-F.Splice l n i j atoms) = true
 is_built (Statement-F.Reserve l n c) = true
 is_built (Statement-F.Clear l n) = true
 is_built (Statement-F.Rebase l n) = true
+is_built (Statement-F.Extend l n m) = true
 is_built (Statement-F.Equal l n m) = true
 is_built s = false
 

@@ -29,8 +29,29 @@ fn built(statement: &Statement) -> bool
         | Statement::Reserve { .. }
         | Statement::Clear { .. }
         | Statement::Rebase { .. }
+        | Statement::Extend { .. }
         | Statement::Equal { .. } => true,
-        _ => false,
+        Statement::Prepend { .. }
+        | Statement::Update { .. }
+        | Statement::RemoveAt { .. }
+        | Statement::At { .. }
+        | Statement::Has { .. }
+        | Statement::Place { .. }
+        | Statement::Peek { .. }
+        | Statement::Replace { .. }
+        | Statement::Rotate { .. }
+        | Statement::Union { .. }
+        | Statement::Inter { .. }
+        | Statement::Minus { .. }
+        | Statement::SymDiff { .. }
+        | Statement::Subset { .. }
+        | Statement::Disjoint { .. }
+        | Statement::Put { .. }
+        | Statement::Merge { .. }
+        | Statement::Within { .. }
+        | Statement::Lazy { .. }
+        | Statement::Fork { .. }
+        | Statement::Give { .. } => false,
     }
 }
 

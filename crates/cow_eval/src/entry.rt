@@ -19,7 +19,7 @@ ghost use Rattle.cow_kinds.specs.Values.{seen, plain_of, is_alone};
 ghost use Rattle.cow_eval.specs.Envs.{entry_of};
 ghost use Rattle.cow_eval.specs.Entries.{entry_after, refusal_or_full};
 
-use crate::values::{is_front, pop, same, size, slice_refusal, stop};
+use crate::values::{is_front, pop, same, self_refusal, size, slice_refusal, stop};
 use cow_cell::{Holder, Stock};
 use cow_kinds::{Element, Value};
 use cow_model::{Literal, Name, NoMemory, Refusal, Side, Statement};
@@ -287,6 +287,43 @@ impl<T: Element<Q>, Q: Stock> Entry<T, Q> {
         let result = self.value.change_by(statement, other, h);
         self.alone = !same(&before, &self.value);
         before.end(h);
+        result
+    }
+
+    /// The same by the value of another name.
+    pub fn change_by_entry(
+        &mut self,
+        statement: &Statement,
+        other: &Entry<T, Q>,
+        h: &mut Holder<Q>,
+    ) -> Result<Result<(), Refusal>, NoMemory>
+        requires spare { 2 ^ 39 ≤ h.old.spare }
+        ensures answer { IfOk result (λ r. r ≡ verdict (fitting (change_by_of (out-Statement statement.now) self.old.seen.value other.now.seen.value))) }
+        ensures entry { OnOk result (entry_of self.new ≡ entry_after (sharing.alone_after (entry_of self.old)) (entry_of self.old) (fitting (change_by_of (out-Statement statement.now) self.old.seen.value other.now.seen.value))) }
+        ensures silent { reply_of (fitting (change_by_of (out-Statement statement.now) self.old.seen.value other.now.seen.value)) ≡ [] }
+    {
+        self.change_by(statement, &other.value, h)
+    }
+
+    /// The same by itself: a second handle is lent, and the value isn't alone afterwards. The refusal comes
+    /// before that, since a refused statement keeps the flag.
+    pub fn change_by_itself(
+        &mut self,
+        statement: &Statement,
+        h: &mut Holder<Q>,
+    ) -> Result<Result<(), Refusal>, NoMemory>
+        requires spare { 2 ^ 39 + 1 ≤ h.old.spare }
+        ensures answer { IfOk result (λ r. r ≡ verdict (fitting (change_by_of (out-Statement statement.now) self.old.seen.value self.old.seen.value))) }
+        ensures entry { OnOk result (entry_of self.new ≡ entry_after (λ value. false) (entry_of self.old) (fitting (change_by_of (out-Statement statement.now) self.old.seen.value self.old.seen.value))) }
+        ensures silent { OnOk result (reply_of (fitting (change_by_of (out-Statement statement.now) self.old.seen.value self.old.seen.value)) ≡ []) }
+    {
+        if let Some(why) = self_refusal(statement, &self.value) {
+            return Ok(Err(why));
+        }
+        self.alone = false;
+        let other = self.value.copy(h);
+        let result = self.value.change_by(statement, &other, h);
+        other.end(h);
         result
     }
 }

@@ -7,9 +7,12 @@
 //! first statement that no crate below can run yet.
 //!
 //! `let N = M` and slices make a second handle and copy no element. A change of a value whose flag is false
-//! keeps a second handle of the old value, compares the two, and sets the flag where they differ.
+//! keeps a second handle of the old value, compares the two, and sets the flag where they differ. `extend N M`
+//! reads M's value where it stands, so M's flag stays; `extend N N` lends a second handle for the statement, and
+//! leaves the flag false.
 #![tactic(auto)]
 
+mod both;
 mod built;
 mod entry;
 mod env;

@@ -10,6 +10,7 @@ ghost use Rattle.cow_kinds.specs.Atoms.{FitsTexts};
 ghost use Rattle.cow_eval.specs.Built.{is_built, IsBuilt, is_free, AreThere};
 ghost use Rattle.cow_eval.specs.Envs.{env_of};
 
+use crate::both::change_by;
 use crate::env::Env;
 use crate::statement::{
     ask, ask_both, assign, change, change_key, discard, make, pop, show, slice, sum,
@@ -70,6 +71,27 @@ fn asking<T: Element<Q>, Q: Stock>(
     }
 }
 
+// What a statement that changes a value by another does.
+fn changing_by<T: Element<Q>, Q: Stock>(
+    statement: &Statement,
+    env: &mut Env<T, Q>,
+    h: &mut Holder<Q>,
+    text: &mut Vec<u8>,
+) -> Result<(), NoMemory>
+    requires built { is_built (out-Statement statement.now) ≡ true }
+    requires spare { 2 ^ 40 ≤ h.old.spare }
+    ensures env { OnOk result (env_of env.new ≡ (spec.changing_by (env_of env.old) (out-Statement statement.now)).env) }
+    ensures text { OnOk result (text.new.items ≡ text.old.items ++ (spec.changing_by (env_of env.old) (out-Statement statement.now)).text) }
+    ensures err { OnErr result (text.new.items ≡ text.old.items) }
+{
+    match statement {
+        Statement::Extend { name, other, .. } => {
+            change_by(statement, name.as_slice(), other.as_slice(), env, h, text)
+        }
+        _ => asking(statement, env, text),
+    }
+}
+
 // What a statement that changes values does.
 fn changing<T: Element<Q>, Q: Stock>(
     alloc: Global,
@@ -101,7 +123,7 @@ fn changing<T: Element<Q>, Q: Stock>(
         | Statement::Rebase { name, .. } => {
             change(alloc, statement, name.as_slice(), env, h, text)
         }
-        _ => asking(statement, env, text),
+        _ => changing_by(statement, env, h, text),
     }
 }
 

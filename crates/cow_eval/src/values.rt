@@ -1,17 +1,24 @@
 // What the interpreter asks of a value.
-ghost use Rattle.std.specs.Prelude.{◌≡◌, ◌^◌, ◌≤◌, ◌⊎◌, ◌++◌, true, false, is_some, IfOk, OnOk, OnErr};
+ghost use Rattle.std.specs.Prelude.{◌≡◌, ◌^◌, ◌≤◌, ◌⊎◌, ◌++◌, true, false, length, is_some, IfOk, OnOk, OnErr};
+ghost use Rattle.cow_model.specs.Changes.{change_by_of};
 ghost use Rattle.cow_model.specs.Operation as operation;
+ghost use Rattle.cow_model.specs.Operation.{fitting};
 ghost use Rattle.cow_model.specs.Plain as plain;
+ghost use Rattle.cow_model.specs.declared.statement.Statement.{out-Statement};
+ghost use Rattle.cow_model.specs.declared.value.Plain.TheVariants as kinds;
 ghost use Rattle.cow_kinds.specs.Seen as kind;
 ghost use Rattle.cow_kinds.specs.Values.{plain_of, is_alone};
 ghost use Rattle.cow_kinds.specs.Answers.{verdict, value_after, reply_of};
-ghost use Rattle.cow_eval.specs.Entries.{refusal_or_full};
+ghost use Rattle.cow_eval.specs.Entries.{refusal_or_full, refusal_in};
 ghost use Rattle.cow_eval.specs.Entries as entries;
 
 use cow_array::{Array, ArraySlice};
 use cow_cell::{Holder, Stock};
 use cow_kinds::{Element, Value};
-use cow_model::{NoMemory, Refusal, Side};
+use cow_model::{NoMemory, Refusal, Side, Statement};
+
+/// The most elements of a value.
+const MAX_COUNT: usize = 65_536;
 
 /// The number of atoms.
 pub fn size<T: Element<Q>, Q: Stock>(value: &Value<T, Q>) -> usize
@@ -114,4 +121,30 @@ pub fn pop<T: Element<Q>, Q: Stock>(
     ensures changed { entries.is_front side (plain_of value.old) ≡ false → (plain_of value.new ≡ plain_of value.old) ⊎ (is_alone value.new ≡ true) }
 {
     value.pop(side, text, h)
+}
+
+// Why an array isn't extended by itself.
+fn doubled_refusal<T: Element<Q>, Q: Stock>(a: &Array<T, Q>) -> Option<Refusal>
+    requires small { length a.now.value ≤ plain.max_count }
+    ensures { result ≡ refusal_in (fitting (operation.extend (kinds.Array a.now.value) (kinds.Array a.now.value))) }
+{
+    if a.count() + a.count() <= MAX_COUNT {
+        None
+    } else {
+        Some(Refusal::Full)
+    }
+}
+
+/// Why a statement that changes a value by another is refused where the other is this very value.
+pub fn self_refusal<T: Element<Q>, Q: Stock>(
+    statement: &Statement,
+    value: &Value<T, Q>,
+) -> Option<Refusal>
+    requires small { plain.count (plain_of value.now) ≤ plain.max_count }
+    ensures { result ≡ refusal_in (fitting (change_by_of (out-Statement statement.now) (plain_of value.now) (plain_of value.now))) }
+{
+    match (statement, value) {
+        (Statement::Extend { .. }, Value::Array(a)) => doubled_refusal(a),
+        _ => Some(Refusal::WrongKind),
+    }
 }

@@ -1,0 +1,41 @@
+use Rattle.std.proofs.Common.{◌++◌, refl, ap, sym, ◌∙◌}
+use Rattle.std.proofs.lemmas.List.{append-nil}
+use Rattle.cow_model.specs.Changes.{change_by_of}
+use Rattle.cow_model.specs.declared.statement.Statement.{out-Statement}
+use Rattle.cow_eval.proofs.Results.{always}
+use Rattle.cow_eval.proofs.Apart.{apart, other-done, other-refused}
+use Rattle.cow_eval.proofs.both.change_by_other.Goals as goal
+
+pub change_by_place-requires-clause-apart : goal.change_by_place-requires-clause-apart
+change_by_place-requires-clause-apart g c =
+    let found = rw c.deref.ensures.value at c.find.ensures in
+    let found-2 = rw c.deref-2.ensures.value at c.find-2.ensures in
+    apart c.env.inside.names.items c.args.name.now c.args.other.now c.in-Some.at c.in-Some-find.by c.index.result.now c.index-2.result.now (sym found ∙ c.in-Some.is) c.index.ensures (sym found-2 ∙ c.in-Some-find.is) c.index-2.ensures c.requires.apart
+
+pub returns-in-Ok-clause-env : goal.returns-in-Ok-clause-env
+returns-in-Ok-clause-env g c =
+    let found = rw c.deref.ensures.value at c.find.ensures in
+    let found-2 = rw c.deref-2.ensures.value at c.find-2.ensures in
+    let did = other-done (record { names = c.env.inside.names.items; room = c.env.inside.room; allowed = c.env.inside.allowed }) c.args.name.now c.args.other.now c.in-Some.at c.in-Some-find.by c.index.result.now c.index-2.result.now (sym found ∙ c.in-Some.is) c.index.ensures (sym found-2 ∙ c.in-Some-find.is) c.index-2.ensures c.requires.apart (change_by_of (out-Statement c.args.statement.now)) c.change_by_place.new.names.items c.in_ok-change_by_place.field-0 c.in_ok-change_by_place.ensures (sym c.in-Ok.is) in
+    rw (c.in_ok-allowed.ensures.value, c.both_cost.ensures.cost, c.size.ensures.cost, ← c.env.view_is) did.env
+
+pub returns-in-Ok-clause-text : goal.returns-in-Ok-clause-text
+returns-in-Ok-clause-text g c =
+    let found = rw c.deref.ensures.value at c.find.ensures in
+    let found-2 = rw c.deref-2.ensures.value at c.find-2.ensures in
+    let did = other-done (record { names = c.env.inside.names.items; room = c.env.inside.room; allowed = c.env.inside.allowed }) c.args.name.now c.args.other.now c.in-Some.at c.in-Some-find.by c.index.result.now c.index-2.result.now (sym found ∙ c.in-Some.is) c.index.ensures (sym found-2 ∙ c.in-Some-find.is) c.index-2.ensures c.requires.apart (change_by_of (out-Statement c.args.statement.now)) c.change_by_place.new.names.items c.in_ok-change_by_place.field-0 c.in_ok-change_by_place.ensures (sym c.in-Ok.is) in
+    rw (← c.env.view_is, ← did.text) (sym (append-nil c.args.text.now.items))
+
+pub returns-in-Err-clause-env : goal.returns-in-Err-clause-env
+returns-in-Err-clause-env g c =
+    let found = rw c.deref.ensures.value at c.find.ensures in
+    let found-2 = rw c.deref-2.ensures.value at c.find-2.ensures in
+    let did = other-refused (record { names = c.env.inside.names.items; room = c.env.inside.room; allowed = c.env.inside.allowed }) c.args.name.now c.args.other.now c.in-Some.at c.in-Some-find.by c.index.result.now c.index-2.result.now (sym found ∙ c.in-Some.is) c.index.ensures (sym found-2 ∙ c.in-Some-find.is) c.index-2.ensures c.requires.apart (change_by_of (out-Statement c.args.statement.now)) c.change_by_place.new.names.items c.in_ok-change_by_place.field-0 c.in_ok-change_by_place.ensures c.in-Err.why (sym c.in-Err.is) in
+    always _ c.refuse-in-Err.result (rw (← c.env.view_is) did.env)
+
+pub returns-in-Err-clause-text : goal.returns-in-Err-clause-text
+returns-in-Err-clause-text g c =
+    let found = rw c.deref.ensures.value at c.find.ensures in
+    let found-2 = rw c.deref-2.ensures.value at c.find-2.ensures in
+    let did = other-refused (record { names = c.env.inside.names.items; room = c.env.inside.room; allowed = c.env.inside.allowed }) c.args.name.now c.args.other.now c.in-Some.at c.in-Some-find.by c.index.result.now c.index-2.result.now (sym found ∙ c.in-Some.is) c.index.ensures (sym found-2 ∙ c.in-Some-find.is) c.index-2.ensures c.requires.apart (change_by_of (out-Statement c.args.statement.now)) c.change_by_place.new.names.items c.in_ok-change_by_place.field-0 c.in_ok-change_by_place.ensures c.in-Err.why (sym c.in-Err.is) in
+    rw (← c.env.view_is, ← did.text) c.refuse-in-Err.ensures.ok
