@@ -42,9 +42,8 @@ fn options(words: &[&str]) -> Option<bool>
 /// - `Ok` says that the source was read to its end, that the sink took exactly what the run writes, and that
 ///   all units are back. `Leak` says the first two, and how many units are back.
 ///
-/// The holder afterwards has the number of items that were copied. After `Ok` and `Leak` it is within the bounds
-/// of the sharing rule. On `Usage`, `Script` and `NotYet` one line is written; a write that fails there leaves the
-/// status as it is.
+/// The holder afterwards has the number of items that were copied, which the census tells. On `Usage`, `Script`
+/// and `NotYet` one line is written; a write that fails there leaves the status as it is.
 pub fn cowrun<Q: Stock, S: Source, K: Sink>(
     alloc: Global,
     words: &[&str],
