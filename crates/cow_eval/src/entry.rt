@@ -13,7 +13,7 @@ ghost use Rattle.cow_model.specs.Sharing.{literals};
 ghost use Rattle.cow_model.specs.Sharing as sharing;
 ghost use Rattle.cow_model.specs.declared.statement.Statement.{out-Statement};
 ghost use Rattle.cow_kinds.specs.Answers.{verdict, reply_of, told_verdict, told_reply};
-ghost use Rattle.cow_kinds.specs.Atoms.{FitsTexts};
+ghost use Rattle.cow_model.specs.Atoms.{FitsTexts};
 ghost use Rattle.cow_kinds.specs.Seen.{shared};
 ghost use Rattle.cow_kinds.specs.Values.{seen, plain_of, is_alone};
 ghost use Rattle.cow_eval.specs.Envs.{entry_of};

@@ -6,7 +6,7 @@ ghost use Rattle.cow_model.specs.Step as spec;
 ghost use Rattle.cow_model.specs.declared.statement.Statement.{out-Statement};
 ghost use Rattle.cow_model.specs.Fronts.{GrowsWithin};
 ghost use Rattle.cow_model.specs.Run as run;
-ghost use Rattle.cow_kinds.specs.Atoms.{FitsTexts};
+ghost use Rattle.cow_model.specs.Atoms.{FitsTexts};
 ghost use Rattle.cow_eval.specs.Built.{is_built, IsBuilt, is_free, AreThere};
 ghost use Rattle.cow_eval.specs.Envs.{env_of};
 

@@ -9,7 +9,7 @@ ghost use Rattle.cow_model.specs.Printed.{line, plain_text, refusal};
 ghost use Rattle.cow_model.specs.Sharing.{literals};
 ghost use Rattle.cow_model.specs.Step as spec;
 ghost use Rattle.cow_model.specs.declared.statement.Statement.{out-Statement};
-ghost use Rattle.cow_kinds.specs.Atoms.{FitsTexts};
+ghost use Rattle.cow_model.specs.Atoms.{FitsTexts};
 ghost use Rattle.cow_eval.specs.Envs.{env_of};
 
 use crate::entry::Entry;

@@ -1,5 +1,5 @@
 -- What a call tells of the answer that its definition gives.
-use Rattle.std.specs.Prelude.{⊤, [], Result, Ok, Err}
+use Rattle.std.specs.Prelude.{Bool, true, false, ⊤, [], Result, Ok, Err}
 use Rattle.cow_model.specs.Lexis.{Text}
 use Rattle.cow_model.specs.Printed.{line}
 use Rattle.cow_model.specs.Operation.{Answer}
@@ -11,6 +11,11 @@ use Rattle.cow_model.specs.declared.refusal.Refusal.{Refusal}
 abbrev pub verdict : Answer → Result ⊤ Refusal
 verdict (Ok done) = Ok _
 verdict (Err why) = Err why
+
+-- whether a statement is refused
+abbrev pub is_refused : Answer → Bool
+is_refused (Ok done) = false
+is_refused (Err why) = true
 
 -- the value after a statement: a refused one changes nothing
 abbrev pub value_after : Plain → Answer → Plain

@@ -1,6 +1,6 @@
 // The statements on arrays, each as its definition says. A refused one changes nothing and makes no
 // element.
-ghost use Rattle.std.specs.Prelude.{◌≡◌, ◌+◌, ◌*◌, ◌≤◌, [], ◌∷◌, ◌++◌, length, count_by, slice_get, All, IfOk, OnOk, OnErr};
+ghost use Rattle.std.specs.Prelude.{◌≡◌, ◌+◌, ◌*◌, ◌≤◌, [], ◌∷◌, ◌++◌, length, count_by, slice_get, All, true, IsOk, IfOk, OnOk, OnErr};
 ghost use Rattle.cow_model.specs.Flat.{need, Becomes};
 ghost use Rattle.cow_model.specs.Changes.{change_of, query_of};
 ghost use Rattle.cow_model.specs.Literals.{FitsText};
@@ -12,8 +12,8 @@ ghost use Rattle.cow_model.specs.Purse.{Moves, less, noted};
 ghost use Rattle.cow_model.specs.declared.value.Plain.TheVariants as plain;
 ghost use Rattle.cow_model.specs.Sharing.{literals};
 ghost use Rattle.cow_model.specs.declared.statement.Statement.{out-Statement};
-ghost use Rattle.cow_kinds.specs.Answers.{verdict, value_after, reply_of, told_verdict, told_reply};
-ghost use Rattle.cow_kinds.specs.Atoms.{FitsTexts, atoms_of};
+ghost use Rattle.cow_kinds.specs.Answers.{verdict, is_refused, value_after, reply_of, told_verdict, told_reply};
+ghost use Rattle.cow_model.specs.Atoms.{FitsTexts, atoms_of};
 ghost use Rattle.cow_kinds.specs.Seen.{array, StaysAlone, Costs, PopCosts};
 
 use crate::element::Element;
@@ -39,6 +39,7 @@ pub fn append<T: Element<Q>, Q: Stock>(
     requires small { length a.old.value ≤ max_count }
     requires spare { need (2 * (length a.old.value + 1) + 1) ≤ h.old.spare }
     ensures answer { IfOk result (λ r. r ≡ verdict (fitting (spec.append atom.now (plain.Array a.old.value)))) }
+    ensures free { is_refused (fitting (spec.append atom.now (plain.Array a.old.value))) ≡ true → IsOk result × (h.new ≡ h.old) }
     ensures value { OnOk result (plain.Array a.new.value ≡ value_after (plain.Array a.old.value) (fitting (spec.append atom.now (plain.Array a.old.value)))) }
     ensures silent { reply_of (fitting (spec.append atom.now (plain.Array a.old.value))) ≡ [] }
     ensures refused { OnErr result (a.new.value ≡ a.old.value) }
@@ -70,6 +71,7 @@ pub fn insert_at<T: Element<Q>, Q: Stock>(
     requires small { length a.old.value ≤ max_count }
     requires spare { need (2 * (length a.old.value + 1) + 1) ≤ h.old.spare }
     ensures answer { IfOk result (λ r. r ≡ verdict (fitting (spec.insert_at i atom.now (plain.Array a.old.value)))) }
+    ensures free { is_refused (fitting (spec.insert_at i atom.now (plain.Array a.old.value))) ≡ true → IsOk result × (h.new ≡ h.old) }
     ensures value { OnOk result (plain.Array a.new.value ≡ value_after (plain.Array a.old.value) (fitting (spec.insert_at i atom.now (plain.Array a.old.value)))) }
     ensures silent { reply_of (fitting (spec.insert_at i atom.now (plain.Array a.old.value))) ≡ [] }
     ensures refused { OnErr result (a.new.value ≡ a.old.value) }
@@ -104,6 +106,7 @@ pub fn set<T: Element<Q>, Q: Stock>(
     requires small { length a.old.value ≤ max_count }
     requires spare { need (2 * (length a.old.value + 1) + 1) ≤ h.old.spare }
     ensures answer { IfOk result (λ r. r ≡ verdict (fitting (spec.set i atom.now (plain.Array a.old.value)))) }
+    ensures free { is_refused (fitting (spec.set i atom.now (plain.Array a.old.value))) ≡ true → IsOk result × (h.new ≡ h.old) }
     ensures value { OnOk result (plain.Array a.new.value ≡ value_after (plain.Array a.old.value) (fitting (spec.set i atom.now (plain.Array a.old.value)))) }
     ensures silent { reply_of (fitting (spec.set i atom.now (plain.Array a.old.value))) ≡ [] }
     ensures refused { OnErr result (a.new.value ≡ a.old.value) }
@@ -136,6 +139,7 @@ pub fn swap<T: Element<Q>, Q: Stock>(
     requires small { length a.old.value ≤ max_count }
     requires spare { need (2 * length a.old.value + 1) ≤ h.old.spare }
     ensures answer { IfOk result (λ r. r ≡ verdict (fitting (spec.swap i j (plain.Array a.old.value)))) }
+    ensures free { is_refused (fitting (spec.swap i j (plain.Array a.old.value))) ≡ true → IsOk result × (h.new ≡ h.old) }
     ensures value { OnOk result (plain.Array a.new.value ≡ value_after (plain.Array a.old.value) (fitting (spec.swap i j (plain.Array a.old.value)))) }
     ensures silent { reply_of (fitting (spec.swap i j (plain.Array a.old.value))) ≡ [] }
     ensures refused { OnErr result (a.new.value ≡ a.old.value) }
@@ -160,6 +164,7 @@ pub fn reverse<T: Element<Q>, Q: Stock>(
     requires small { length a.old.value ≤ max_count }
     requires spare { need (2 * length a.old.value + 1) ≤ h.old.spare }
     ensures answer { IfOk result (λ r. r ≡ verdict (fitting (spec.reversed (plain.Array a.old.value)))) }
+    ensures free { is_refused (fitting (spec.reversed (plain.Array a.old.value))) ≡ true → IsOk result × (h.new ≡ h.old) }
     ensures value { OnOk result (plain.Array a.new.value ≡ value_after (plain.Array a.old.value) (fitting (spec.reversed (plain.Array a.old.value)))) }
     ensures silent { reply_of (fitting (spec.reversed (plain.Array a.old.value))) ≡ [] }
     ensures refused { OnErr result (a.new.value ≡ a.old.value) }
@@ -179,6 +184,7 @@ pub fn reserve<T: Element<Q>, Q: Stock>(
     requires small { length a.old.value ≤ max_count }
     requires spare { need (2 * length a.old.value + 1) ≤ h.old.spare }
     ensures answer { IfOk result (λ r. r ≡ verdict (fitting (spec.reserve c (plain.Array a.old.value)))) }
+    ensures free { is_refused (fitting (spec.reserve c (plain.Array a.old.value))) ≡ true → IsOk result × (h.new ≡ h.old) }
     ensures value { OnOk result (plain.Array a.new.value ≡ value_after (plain.Array a.old.value) (fitting (spec.reserve c (plain.Array a.old.value)))) }
     ensures silent { reply_of (fitting (spec.reserve c (plain.Array a.old.value))) ≡ [] }
     ensures refused { OnErr result (a.new.value ≡ a.old.value) }
@@ -200,6 +206,7 @@ pub fn clear<T: Element<Q>, Q: Stock>(
     requires small { length a.old.value ≤ max_count }
     requires spare { need (2 * length a.old.value + 1) ≤ h.old.spare }
     ensures answer { IfOk result (λ r. r ≡ verdict (fitting (spec.clear (plain.Array a.old.value)))) }
+    ensures free { is_refused (fitting (spec.clear (plain.Array a.old.value))) ≡ true → IsOk result × (h.new ≡ h.old) }
     ensures value { OnOk result (plain.Array a.new.value ≡ value_after (plain.Array a.old.value) (fitting (spec.clear (plain.Array a.old.value)))) }
     ensures silent { reply_of (fitting (spec.clear (plain.Array a.old.value))) ≡ [] }
     ensures refused { OnErr result (a.new.value ≡ a.old.value) }
@@ -220,6 +227,7 @@ pub fn remove<T: Element<Q>, Q: Stock>(
     requires small { length a.old.value ≤ max_count }
     requires spare { need (2 * (length a.old.value + 1) + 1) ≤ h.old.spare }
     ensures answer { IfOk result (λ r. r ≡ verdict (fitting (spec.remove x.now (plain.Array a.old.value)))) }
+    ensures free { is_refused (fitting (spec.remove x.now (plain.Array a.old.value))) ≡ true → IsOk result × (h.new ≡ h.old) }
     ensures value { OnOk result (plain.Array a.new.value ≡ value_after (plain.Array a.old.value) (fitting (spec.remove x.now (plain.Array a.old.value)))) }
     ensures reply { OnOk result (text.new.items ≡ text.old.items ++ reply_of (fitting (spec.remove x.now (plain.Array a.old.value)))) }
     ensures refused { OnErr result ((a.new.value ≡ a.old.value) × (text.new.items ≡ text.old.items)) }
@@ -256,6 +264,7 @@ pub fn pop<T: Element<Q>, Q: Stock>(
     requires small { length a.old.value ≤ max_count }
     requires spare { need (2 * length a.old.value + 1) ≤ h.old.spare }
     ensures answer { IfOk result (λ r. r ≡ verdict (fitting (spec.pop side (plain.Array a.old.value)))) }
+    ensures free { is_refused (fitting (spec.pop side (plain.Array a.old.value))) ≡ true → IsOk result × (h.new ≡ h.old) }
     ensures value { OnOk result (plain.Array a.new.value ≡ value_after (plain.Array a.old.value) (fitting (spec.pop side (plain.Array a.old.value)))) }
     ensures reply { OnOk result (text.new.items ≡ text.old.items ++ reply_of (fitting (spec.pop side (plain.Array a.old.value)))) }
     ensures refused { OnErr result ((a.new.value ≡ a.old.value) × (text.new.items ≡ text.old.items)) }
@@ -293,6 +302,7 @@ pub fn splice<T: Element<Q>, Q: Stock>(
     requires small { length a.old.value ≤ max_count }
     requires spare { need (2 * (length a.old.value + length atoms.now) + 1) ≤ h.old.spare }
     ensures answer { IfOk result (λ r. r ≡ verdict (fitting (spec.splice i j atoms.now (plain.Array a.old.value)))) }
+    ensures free { is_refused (fitting (spec.splice i j atoms.now (plain.Array a.old.value))) ≡ true → IsOk result × (h.new ≡ h.old) }
     ensures value { OnOk result (plain.Array a.new.value ≡ value_after (plain.Array a.old.value) (fitting (spec.splice i j atoms.now (plain.Array a.old.value)))) }
     ensures silent { reply_of (fitting (spec.splice i j atoms.now (plain.Array a.old.value))) ≡ [] }
     ensures refused { OnErr result (a.new.value ≡ a.old.value) }
@@ -325,6 +335,7 @@ pub fn extend<T: Element<Q>, Q: Stock>(
     requires small { length a.old.value ≤ max_count }
     requires spare { need (2 * (length a.old.value + length other.now.value) + 1) ≤ h.old.spare }
     ensures answer { IfOk result (λ r. r ≡ verdict (fitting (spec.extend (plain.Array a.old.value) (plain.Array other.now.value)))) }
+    ensures free { is_refused (fitting (spec.extend (plain.Array a.old.value) (plain.Array other.now.value))) ≡ true → IsOk result × (h.new ≡ h.old) }
     ensures value { OnOk result (plain.Array a.new.value ≡ value_after (plain.Array a.old.value) (fitting (spec.extend (plain.Array a.old.value) (plain.Array other.now.value)))) }
     ensures silent { reply_of (fitting (spec.extend (plain.Array a.old.value) (plain.Array other.now.value))) ≡ [] }
     ensures refused { OnErr result (a.new.value ≡ a.old.value) }
@@ -350,6 +361,7 @@ pub fn change<T: Element<Q>, Q: Stock>(
     requires small { length a.old.value ≤ max_count }
     requires spare { need (2 * (length a.old.value + literals (out-Statement statement.now)) + 1) ≤ h.old.spare }
     ensures answer { IfOk result (λ r. r ≡ verdict (fitting (change_of (out-Statement statement.now) (plain.Array a.old.value)))) }
+    ensures free { is_refused (fitting (change_of (out-Statement statement.now) (plain.Array a.old.value))) ≡ true → IsOk result × (h.new ≡ h.old) }
     ensures value { OnOk result (plain.Array a.new.value ≡ value_after (plain.Array a.old.value) (fitting (change_of (out-Statement statement.now) (plain.Array a.old.value)))) }
     ensures reply { OnOk result (text.new.items ≡ text.old.items ++ reply_of (fitting (change_of (out-Statement statement.now) (plain.Array a.old.value)))) }
     ensures refused { OnErr result ((a.new.value ≡ a.old.value) × (text.new.items ≡ text.old.items)) }

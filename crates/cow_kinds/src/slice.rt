@@ -1,6 +1,6 @@
 // The statements on slices, each as its definition says. A refused one changes nothing and makes no
 // element.
-ghost use Rattle.std.specs.Prelude.{◌≡◌, ◌+◌, ◌*◌, ◌^◌, ◌<◌, ◌≤◌, true, false, [], ◌∷◌, ◌++◌, length, count_by, IfOk, OnOk, OnErr};
+ghost use Rattle.std.specs.Prelude.{◌≡◌, ◌+◌, ◌*◌, ◌^◌, ◌<◌, ◌≤◌, true, false, [], ◌∷◌, ◌++◌, length, count_by, IsOk, IfOk, OnOk, OnErr};
 ghost use Rattle.cow_model.specs.Flat.{need};
 ghost use Rattle.cow_model.specs.Changes.{change_of, query_of};
 ghost use Rattle.cow_model.specs.Literals.{FitsText};
@@ -11,8 +11,9 @@ ghost use Rattle.cow_model.specs.Printed.{line, truth};
 ghost use Rattle.cow_model.specs.declared.value.Plain.TheVariants as plain;
 ghost use Rattle.cow_model.specs.Sharing.{literals};
 ghost use Rattle.cow_model.specs.declared.statement.Statement.{out-Statement};
-ghost use Rattle.cow_kinds.specs.Answers.{verdict, value_after, reply_of, told_verdict, told_reply};
-ghost use Rattle.cow_kinds.specs.Atoms.{FitsTexts, atoms_of, is_rebase};
+ghost use Rattle.cow_kinds.specs.Answers.{verdict, is_refused, value_after, reply_of, told_verdict, told_reply};
+ghost use Rattle.cow_kinds.specs.Atoms.{is_rebase};
+ghost use Rattle.cow_model.specs.Atoms.{FitsTexts, atoms_of};
 ghost use Rattle.cow_kinds.specs.Seen.{slice, StaysAlone, Costs, PopCosts};
 
 use crate::element::Element;
@@ -38,6 +39,7 @@ pub fn append<T: Element<Q>, Q: Stock>(
     requires length { FitsText atom.now }
     requires spare { need (2 * (length s.old.value.items + 1) + 1) ≤ h.old.spare }
     ensures answer { IfOk result (λ r. r ≡ verdict (fitting (spec.append atom.now (plain.Slice s.old.value.start s.old.value.items)))) }
+    ensures free { is_refused (fitting (spec.append atom.now (plain.Slice s.old.value.start s.old.value.items))) ≡ true → IsOk result × (h.new ≡ h.old) }
     ensures value { OnOk result (plain.Slice s.new.value.start s.new.value.items ≡ value_after (plain.Slice s.old.value.start s.old.value.items) (fitting (spec.append atom.now (plain.Slice s.old.value.start s.old.value.items)))) }
     ensures silent { reply_of (fitting (spec.append atom.now (plain.Slice s.old.value.start s.old.value.items))) ≡ [] }
     ensures refused { OnErr result ((s.new.value.start ≡ s.old.value.start) × (s.new.value.items ≡ s.old.value.items)) }
@@ -70,6 +72,7 @@ pub fn set<T: Element<Q>, Q: Stock>(
     requires length { FitsText atom.now }
     requires spare { need (2 * (length s.old.value.items + 1) + 1) ≤ h.old.spare }
     ensures answer { IfOk result (λ r. r ≡ verdict (fitting (spec.set i atom.now (plain.Slice s.old.value.start s.old.value.items)))) }
+    ensures free { is_refused (fitting (spec.set i atom.now (plain.Slice s.old.value.start s.old.value.items))) ≡ true → IsOk result × (h.new ≡ h.old) }
     ensures value { OnOk result (plain.Slice s.new.value.start s.new.value.items ≡ value_after (plain.Slice s.old.value.start s.old.value.items) (fitting (spec.set i atom.now (plain.Slice s.old.value.start s.old.value.items)))) }
     ensures silent { reply_of (fitting (spec.set i atom.now (plain.Slice s.old.value.start s.old.value.items))) ≡ [] }
     ensures refused { OnErr result ((s.new.value.start ≡ s.old.value.start) × (s.new.value.items ≡ s.old.value.items)) }
@@ -103,6 +106,7 @@ pub fn pop<T: Element<Q>, Q: Stock>(
     requires small { length s.old.value.items ≤ max_count }
     requires spare { need (2 * length s.old.value.items + 1) ≤ h.old.spare }
     ensures answer { IfOk result (λ r. r ≡ verdict (fitting (spec.pop side (plain.Slice s.old.value.start s.old.value.items)))) }
+    ensures free { is_refused (fitting (spec.pop side (plain.Slice s.old.value.start s.old.value.items))) ≡ true → IsOk result × (h.new ≡ h.old) }
     ensures value { OnOk result (plain.Slice s.new.value.start s.new.value.items ≡ value_after (plain.Slice s.old.value.start s.old.value.items) (fitting (spec.pop side (plain.Slice s.old.value.start s.old.value.items)))) }
     ensures reply { OnOk result (text.new.items ≡ text.old.items ++ reply_of (fitting (spec.pop side (plain.Slice s.old.value.start s.old.value.items)))) }
     ensures refused { OnErr result ((s.new.value.start ≡ s.old.value.start) × (s.new.value.items ≡ s.old.value.items) × (text.new.items ≡ text.old.items)) }
@@ -134,6 +138,7 @@ pub fn change<T: Element<Q>, Q: Stock>(
     requires texts { FitsTexts (out-Statement statement.now) }
     requires spare { need (2 * (length s.old.value.items + literals (out-Statement statement.now)) + 1) ≤ h.old.spare }
     ensures answer { IfOk result (λ r. r ≡ verdict (fitting (change_of (out-Statement statement.now) (plain.Slice s.old.value.start s.old.value.items)))) }
+    ensures free { is_refused (fitting (change_of (out-Statement statement.now) (plain.Slice s.old.value.start s.old.value.items))) ≡ true → IsOk result × (h.new ≡ h.old) }
     ensures value { OnOk result (plain.Slice s.new.value.start s.new.value.items ≡ value_after (plain.Slice s.old.value.start s.old.value.items) (fitting (change_of (out-Statement statement.now) (plain.Slice s.old.value.start s.old.value.items)))) }
     ensures reply { OnOk result (text.new.items ≡ text.old.items ++ reply_of (fitting (change_of (out-Statement statement.now) (plain.Slice s.old.value.start s.old.value.items)))) }
     ensures refused { OnErr result ((s.new.value.start ≡ s.old.value.start) × (s.new.value.items ≡ s.old.value.items) × (text.new.items ≡ text.old.items)) }

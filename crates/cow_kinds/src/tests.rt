@@ -3,7 +3,7 @@ ghost use Rattle.cow_cell.specs.Opens.{Opens};
 ghost use Rattle.cow_model.specs.Plain as plain;
 ghost use Rattle.cow_model.specs.Sharing.{literals};
 ghost use Rattle.cow_model.specs.declared.statement.Statement.{out-Statement};
-ghost use Rattle.cow_kinds.specs.Atoms.{FitsTexts};
+ghost use Rattle.cow_model.specs.Atoms.{FitsTexts};
 ghost use Rattle.cow_kinds.specs.Seen.{stop};
 ghost use Rattle.cow_kinds.specs.Values.{plain_of};
 

@@ -1,4 +1,4 @@
-ghost use Rattle.std.specs.Prelude.{◌≡◌, ◌+◌, ◌*◌, ◌^◌, ◌<◌, ◌≤◌, ◌++◌, length, count_by, All, true, false, [], Ok, Err, IfOk, IfErr, OnOk, OnErr, MatchResult};
+ghost use Rattle.std.specs.Prelude.{◌≡◌, ◌+◌, ◌*◌, ◌^◌, ◌<◌, ◌≤◌, ◌++◌, length, count_by, All, true, false, [], Ok, Err, IsOk, IfOk, IfErr, OnOk, OnErr, MatchResult};
 ghost use Rattle.std.specs.Io.{StartsWith};
 ghost use Rattle.cow_model.specs.Changes.{change_of, change_by_of, query_of, query_both_of};
 ghost use Rattle.cow_model.specs.Flat.{need};
@@ -11,8 +11,8 @@ ghost use Rattle.cow_model.specs.Printed.{plain_text};
 ghost use Rattle.cow_model.specs.Purse.{Moves, less, more, noted};
 ghost use Rattle.cow_model.specs.Sharing.{literals};
 ghost use Rattle.cow_model.specs.declared.statement.Statement.{out-Statement};
-ghost use Rattle.cow_kinds.specs.Answers.{verdict, value_after, reply_of, told_verdict, told_reply};
-ghost use Rattle.cow_kinds.specs.Atoms.{FitsTexts, atoms_of};
+ghost use Rattle.cow_kinds.specs.Answers.{verdict, is_refused, value_after, reply_of, told_verdict, told_reply};
+ghost use Rattle.cow_model.specs.Atoms.{FitsTexts, atoms_of, counted_in};
 ghost use Rattle.cow_kinds.specs.Seen.{shared, stop, StaysAlone, Costs, PopCosts, pop_alone, listed, held, units};
 ghost use Rattle.cow_kinds.specs.Values.{seen, plain_of, is_alone};
 
@@ -79,6 +79,7 @@ impl<T: Element<Q>, Q: Stock> Value<T, Q> {
         ensures same { OnOk result (seen self.new ≡ shared (seen self.old)) }
         ensures alone { IfOk result (λ v. is_alone v ≡ false) }
         ensures hidden { IfOk result (λ v. (seen v).hidden ≡ count_by T.is_counted (held (plain_of self.old))) }
+        ensures bare { units T.is_counted (seen self.old) ≡ 0 → IfOk result (λ v. units T.is_counted (seen v) ≡ 0) }
         ensures spent { OnOk result (h.new ≡ less 1 h.old) }
         ensures refused { OnErr result ((self.new ≡ self.old) × (h.new ≡ h.old)) }
     {
@@ -151,6 +152,7 @@ impl<T: Element<Q>, Q: Stock> Value<T, Q> {
         requires small { plain.count (plain_of self.old) ≤ max_count }
         requires spare { need (2 * plain.count (plain_of self.old) + 1) ≤ h.old.spare }
         ensures answer { IfOk result (λ r. r ≡ verdict (fitting (spec.rebase (plain_of self.old)))) }
+        ensures free { is_refused (fitting (spec.rebase (plain_of self.old))) ≡ true → IsOk result × (h.new ≡ h.old) }
         ensures value { OnOk result (plain_of self.new ≡ value_after (plain_of self.old) (fitting (spec.rebase (plain_of self.old)))) }
         ensures silent { reply_of (fitting (spec.rebase (plain_of self.old))) ≡ [] }
         ensures refused { OnErr result (plain_of self.new ≡ plain_of self.old) }
@@ -202,11 +204,13 @@ impl<T: Element<Q>, Q: Stock> Value<T, Q> {
         requires stop { stop (plain_of self.old) < 2 ^ 31 }
         requires spare { need (2 * (plain.count (plain_of self.old) + literals (out-Statement statement.now)) + 1) ≤ h.old.spare }
         ensures answer { IfOk result (λ r. r ≡ verdict (fitting (change_of (out-Statement statement.now) (plain_of self.old)))) }
+        ensures free { is_refused (fitting (change_of (out-Statement statement.now) (plain_of self.old))) ≡ true → IsOk result × (h.new ≡ h.old) }
         ensures value { OnOk result (plain_of self.new ≡ value_after (plain_of self.old) (fitting (change_of (out-Statement statement.now) (plain_of self.old)))) }
         ensures reply { OnOk result (text.new.items ≡ text.old.items ++ reply_of (fitting (change_of (out-Statement statement.now) (plain_of self.old)))) }
         ensures refused { OnErr result ((plain_of self.new ≡ plain_of self.old) × (text.new.items ≡ text.old.items)) }
         ensures alone { StaysAlone (seen self.old) (seen self.new) }
         ensures hidden { (seen self.new).hidden ≤ (seen self.old).hidden + count_by T.is_counted (atoms_of (out-Statement statement.now)) }
+        ensures bare { units T.is_counted (seen self.old) ≡ 0 → counted_in T.is_counted (out-Statement statement.now) ≡ 0 → units T.is_counted (seen self.new) ≡ 0 }
         ensures paid { Costs T.is_counted (count_by T.is_counted (atoms_of (out-Statement statement.now))) (literals (out-Statement statement.now)) (seen self.old) h.old h.new }
     {
         if let Statement::Rebase { .. } = statement {
@@ -229,11 +233,13 @@ impl<T: Element<Q>, Q: Stock> Value<T, Q> {
         requires small { plain.count (plain_of self.old) ≤ max_count }
         requires spare { need (2 * plain.count (plain_of self.old) + 1) ≤ h.old.spare }
         ensures answer { IfOk result (λ r. r ≡ verdict (fitting (spec.pop side (plain_of self.old)))) }
+        ensures free { is_refused (fitting (spec.pop side (plain_of self.old))) ≡ true → IsOk result × (h.new ≡ h.old) }
         ensures value { OnOk result (plain_of self.new ≡ value_after (plain_of self.old) (fitting (spec.pop side (plain_of self.old)))) }
         ensures reply { OnOk result (text.new.items ≡ text.old.items ++ reply_of (fitting (spec.pop side (plain_of self.old)))) }
         ensures refused { OnErr result ((plain_of self.new ≡ plain_of self.old) × (text.new.items ≡ text.old.items)) }
         ensures alone { pop_alone (plain_of self.old) (seen self.old) (seen self.new) }
         ensures hidden { (seen self.new).hidden ≤ (seen self.old).hidden }
+        ensures bare { units T.is_counted (seen self.old) ≡ 0 → units T.is_counted (seen self.new) ≡ 0 }
         ensures paid { PopCosts T.is_counted (seen self.old) h.old h.new }
     {
         match self {
@@ -253,11 +259,13 @@ impl<T: Element<Q>, Q: Stock> Value<T, Q> {
         requires other_small { plain.count (plain_of other.now) ≤ max_count }
         requires spare { need (2 * (plain.count (plain_of self.old) + plain.count (plain_of other.now)) + 1) ≤ h.old.spare }
         ensures answer { IfOk result (λ r. r ≡ verdict (fitting (change_by_of (out-Statement statement.now) (plain_of self.old) (plain_of other.now)))) }
+        ensures free { is_refused (fitting (change_by_of (out-Statement statement.now) (plain_of self.old) (plain_of other.now))) ≡ true → IsOk result × (h.new ≡ h.old) }
         ensures value { OnOk result (plain_of self.new ≡ value_after (plain_of self.old) (fitting (change_by_of (out-Statement statement.now) (plain_of self.old) (plain_of other.now)))) }
         ensures silent { reply_of (fitting (change_by_of (out-Statement statement.now) (plain_of self.old) (plain_of other.now))) ≡ [] }
         ensures refused { OnErr result (plain_of self.new ≡ plain_of self.old) }
         ensures alone { StaysAlone (seen self.old) (seen self.new) }
         ensures hidden { (seen self.new).hidden ≤ (seen self.old).hidden }
+        ensures bare { units T.is_counted (seen self.old) ≡ 0 → units T.is_counted (seen other.now) ≡ 0 → units T.is_counted (seen self.new) ≡ 0 }
         ensures paid { Costs T.is_counted (units T.is_counted (seen other.now)) (plain.size (plain_of other.now)) (seen self.old) h.old h.new }
     {
         match (self, statement, other) {

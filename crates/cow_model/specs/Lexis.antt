@@ -1,5 +1,5 @@
 -- The lines of a script, and the words and tokens of a line.
-use Rattle.std.specs.Prelude.{ℕ, Bool, false, not, ◌&&◌, nat_le, List, [], ◌∷◌, ◌++◌, filter, ◌==◌, length, if◌then◌else◌}
+use Rattle.std.specs.Prelude.{ℕ, Bool, false, ◌&&◌, nat_le, List, [], ◌∷◌, ◌++◌, ◌==◌, if◌then◌else◌}
 use Rattle.std.specs.List.{slice_split, list_all}
 use Rattle.cow_model.specs.declared.reading.Quoting.{Quoting}
 use Rattle.cow_model.specs.declared.reading.Quoting.TheVariants.{Start, Plain, Quoted, Escaped}
@@ -17,10 +17,6 @@ without_empty_end (part ∷ parts) = part ∷ without_empty_end parts
 -- what stands between newlines, where nothing behind the last newline is no line
 unfoldable pub lines_of : Text → List Text
 lines_of bytes = without_empty_end (slice_split (λ b. b == 10) bytes)
-
--- what stands between spaces
-unfoldable pub words_of : Text → List Text
-words_of line = filter (λ word. not (length word == 0)) (slice_split (λ b. b == 32) line)
 
 -- whether a script may have this byte in a line
 abbrev pub is_printable_byte : ℕ → Bool

@@ -2,7 +2,7 @@
 ghost use Rattle.std.specs.Prelude.{◌≡◌, ◌≤◌, All, IsTrue, take};
 ghost use Rattle.cow_model.specs.Literals.{FitsText};
 ghost use Rattle.cow_model.specs.declared.statement.Statement.{out-Statement};
-ghost use Rattle.cow_kinds.specs.Atoms.{FitsTexts};
+ghost use Rattle.cow_model.specs.Atoms.{FitsTexts};
 
 use cow_model::{Literal, Statement};
 
