@@ -1,7 +1,10 @@
 -- What a statement makes of an entry.
-use Rattle.std.specs.Prelude.{◌≡◌, ℕ, Bool, true, false, List, [], get_or, set, ⊤, Option, Some, None, Result, Ok, Err}
+use Rattle.std.specs.Prelude.{◌≡◌, ℕ, ◌+◌, ◌≤◌, ◌^◌, Bool, true, false, List, [], get_or, set, ⊤, Option, Some, None, Result, Ok, Err}
 use Rattle.cow_model.specs.Operation.{Answer}
-use Rattle.cow_model.specs.Sharing.{alone_after}
+use Rattle.cow_model.specs.Plain.{size}
+use Rattle.cow_model.specs.Purse.{Purse, RisesWithin}
+use Rattle.cow_model.specs.Sharing.{alone_after, own_cost}
+use Rattle.cow_model.specs.declared.plain.Literal.{Literal}
 use Rattle.cow_model.specs.declared.outcome.Entry.{Entry}
 use Rattle.cow_model.specs.declared.statement.Side.{Side}
 use Rattle.cow_model.specs.declared.statement.Side.TheVariants.{First}
@@ -9,8 +12,9 @@ use Rattle.cow_model.specs.declared.value.Plain.{Plain}
 use Rattle.cow_model.specs.declared.value.Plain.TheVariants.{Slice}
 use Rattle.cow_model.specs.declared.refusal.Refusal.{Refusal}
 use Rattle.cow_model.specs.declared.refusal.Refusal.TheVariants.{Full}
-use Rattle.cow_kinds.specs.Answers.{verdict, reply_of}
-use Rattle.cow_eval.specs.Envs.{Held, entry_of}
+use Rattle.cow_kinds.specs.Answers.{verdict, is_refused, reply_of}
+use Rattle.cow_kinds.specs.Seen.{units}
+use Rattle.cow_eval.specs.Envs.{Held, Envs, entry_of}
 
 -- the entry after a statement, of which `alone` tells the flag: a refused one changes nothing
 abbrev pub entry_after : (Plain → Bool) → Entry → Answer → Entry
@@ -43,3 +47,38 @@ pub record ChangedBy (run : Plain → Plain → Answer) (at by : ℕ) (before af
   pub entry : entry_of new ≡ entry_after (alone_after (entry_of old)) (entry_of old) (run old.seen.value other.seen.value)
   pub answer : told ≡ verdict (run old.seen.value other.seen.value)
   pub silent : reply_of (run old.seen.value other.seen.value) ≡ []
+
+-- the copies that are allowed for a change, which may make so many: none where it is refused
+abbrev pub allowed_for : ℕ → Answer → ℕ
+allowed_for n (Ok done) = n
+allowed_for n (Err why) = 0
+
+-- the index at which a slice may not end
+abbrev pub max_stop : ℕ
+max_stop = 2 ^ 31
+
+-- the spare that a statement uses at most
+abbrev pub most_units : ℕ
+most_units = 2 ^ 22
+
+-- what a change of an entry costs that may make n copies: no more are made, and few units are used; none where neither it nor what it brings in holds a counted item, and then it holds none afterwards
+pub record Pays (is_counted : Literal → Bool) (n : ℕ) (brings_none : Type 0) (before after : Held) (h h' : Purse) : Type 0 where
+  pub copied : RisesWithin 0 n h h'
+  pub falls : h.spare ≤ h'.spare + most_units
+  pub bare : brings_none → units is_counted before.seen ≡ 0 → (units is_counted after.seen ≡ 0) × (h'.spare ≡ h.spare)
+
+-- what a statement costs that has so many literals: no more copies are made than those and what is allowed besides, and few units are used
+pub record Paid (literals : ℕ) (before after : Envs) (h h' : Purse) : Type 0 where
+  pub copied : RisesWithin before.allowed (literals + after.allowed) h h'
+  pub falls : h.spare ≤ h'.spare + most_units
+
+-- what a change of the value at one place by that at another costs, as `run` says it; a refused one is told
+pub record PaysBy (is_counted : Literal → Bool) (run : Plain → Plain → Answer) (at by : ℕ) (before after : List Held) (is_told : Type 0) (h h' : Purse) : Type 0 where
+  pub old : Held
+  pub other : Held
+  pub new : Held
+  pub old_is : old ≡ get_or before at old
+  pub other_is : other ≡ get_or before by other
+  pub names : after ≡ set before at new
+  pub told : is_refused (run old.seen.value other.seen.value) ≡ true → is_told
+  pub pays : Pays is_counted (allowed_for (own_cost (entry_of old) + size other.seen.value) (run old.seen.value other.seen.value)) (units is_counted other.seen ≡ 0) old new h h'

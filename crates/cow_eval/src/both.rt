@@ -1,12 +1,12 @@
 // A statement that changes one name's value by another's.
-ghost use Rattle.std.specs.Prelude.{◌≡◌, ◌++◌, ◌^◌, ◌≤◌, ◌<◌, length, true, false, IfOk, OnOk, OnErr};
+ghost use Rattle.std.specs.Prelude.{◌≡◌, ◌++◌, ◌^◌, ◌≤◌, ◌<◌, length, true, false, IsOk, IfOk, OnOk, OnErr};
 ghost use Rattle.std.specs.Str.{bytes_eq};
 ghost use Rattle.cow_model.specs.Changes.{change_by_of};
 ghost use Rattle.cow_model.specs.Operation.{fitting};
 ghost use Rattle.cow_model.specs.Step as spec;
 ghost use Rattle.cow_model.specs.declared.statement.Statement.{out-Statement};
-ghost use Rattle.cow_eval.specs.Entries.{ChangedBy};
-ghost use Rattle.cow_eval.specs.Envs.{env_of};
+ghost use Rattle.cow_eval.specs.Entries.{ChangedBy, Paid, PaysBy};
+ghost use Rattle.cow_eval.specs.Envs.{env_of, IsBare, Balances};
 
 use crate::entry::Entry;
 use crate::env::Env;
@@ -27,7 +27,8 @@ fn change_by_later<T: Element<Q>, Q: Stock>(
     requires order { at < by }
     requires within { by < length names.old }
     requires spare { 2 ^ 39 ≤ h.old.spare }
-    ensures { IfOk result (λ r. ChangedBy (λ v w. fitting (change_by_of (out-Statement statement.now) v w)) at by names.old names.new r) }
+    ensures changed { IfOk result (λ r. ChangedBy (λ v w. fitting (change_by_of (out-Statement statement.now) v w)) at by names.old names.new r) }
+    ensures pays { PaysBy T.is_counted (λ v w. fitting (change_by_of (out-Statement statement.now) v w)) at by names.old names.new (IsOk result) h.old h.new }
 {
     let (front, back) = names.split_at_mut(by);
     front[at].change_by_entry(statement, &back[0], h)
@@ -44,7 +45,8 @@ fn change_by_earlier<T: Element<Q>, Q: Stock>(
     requires order { by < at }
     requires within { at < length names.old }
     requires spare { 2 ^ 39 ≤ h.old.spare }
-    ensures { IfOk result (λ r. ChangedBy (λ v w. fitting (change_by_of (out-Statement statement.now) v w)) at by names.old names.new r) }
+    ensures changed { IfOk result (λ r. ChangedBy (λ v w. fitting (change_by_of (out-Statement statement.now) v w)) at by names.old names.new r) }
+    ensures pays { PaysBy T.is_counted (λ v w. fitting (change_by_of (out-Statement statement.now) v w)) at by names.old names.new (IsOk result) h.old h.new }
 {
     let (front, back) = names.split_at_mut(at);
     back[0].change_by_entry(statement, &front[by], h)
@@ -62,7 +64,8 @@ fn change_by_place<T: Element<Q>, Q: Stock>(
     requires at { at < length names.old.items }
     requires by { by < length names.old.items }
     requires spare { 2 ^ 39 ≤ h.old.spare }
-    ensures { IfOk result (λ r. ChangedBy (λ v w. fitting (change_by_of (out-Statement statement.now) v w)) at by names.old.items names.new.items r) }
+    ensures changed { IfOk result (λ r. ChangedBy (λ v w. fitting (change_by_of (out-Statement statement.now) v w)) at by names.old.items names.new.items r) }
+    ensures pays { PaysBy T.is_counted (λ v w. fitting (change_by_of (out-Statement statement.now) v w)) at by names.old.items names.new.items (IsOk result) h.old h.new }
 {
     if at < by {
         change_by_later(names, at, by, statement, h)
@@ -83,18 +86,22 @@ fn change_by_itself<T: Element<Q>, Q: Stock>(
     ensures env { OnOk result (env_of env.new ≡ (spec.change_by (env_of env.old) name.now name.now true (change_by_of (out-Statement statement.now))).env) }
     ensures text { OnOk result (text.new.items ≡ text.old.items ++ (spec.change_by (env_of env.old) name.now name.now true (change_by_of (out-Statement statement.now))).text) }
     ensures err { OnErr result (text.new.items ≡ text.old.items) }
+    ensures most { OnErr result (env.new.allowed ≤ (spec.change_by (env_of env.old) name.now name.now true (change_by_of (out-Statement statement.now))).env.allowed) }
+    ensures paid { Paid 0 env.old env.new h.old h.new }
+    ensures bare { IsBare T.is_counted env.old.names → OnOk result (Balances T.is_counted 0 env.old.names env.new.names h.old h.new) }
 {
     let Some(at) = find(&env.names, name) else {
         return refuse(text, Refusal::NoName);
     };
     let entry = &mut env.names[at];
-    let allowed = sum(env.allowed, entry.both_cost(true) + entry.size())?;
+    let before = env.allowed;
+    env.allowed = sum(before, entry.both_cost(true) + entry.size())?;
     match entry.change_by_itself(statement, h)? {
-        Ok(()) => {
-            env.allowed = allowed;
-            Ok(())
+        Ok(()) => Ok(()),
+        Err(why) => {
+            env.allowed = before;
+            refuse(text, why)
         }
-        Err(why) => refuse(text, why),
     }
 }
 
@@ -112,6 +119,9 @@ fn change_by_other<T: Element<Q>, Q: Stock>(
     ensures env { OnOk result (env_of env.new ≡ (spec.change_by (env_of env.old) name.now other.now true (change_by_of (out-Statement statement.now))).env) }
     ensures text { OnOk result (text.new.items ≡ text.old.items ++ (spec.change_by (env_of env.old) name.now other.now true (change_by_of (out-Statement statement.now))).text) }
     ensures err { OnErr result (text.new.items ≡ text.old.items) }
+    ensures most { OnErr result (env.new.allowed ≤ (spec.change_by (env_of env.old) name.now other.now true (change_by_of (out-Statement statement.now))).env.allowed) }
+    ensures paid { Paid 0 env.old env.new h.old h.new }
+    ensures bare { IsBare T.is_counted env.old.names → OnOk result (Balances T.is_counted 0 env.old.names env.new.names h.old h.new) }
 {
     let Some(at) = find(&env.names, name) else {
         return refuse(text, Refusal::NoName);
@@ -120,13 +130,14 @@ fn change_by_other<T: Element<Q>, Q: Stock>(
         return refuse(text, Refusal::NoName);
     };
     let copies = env.names[at].both_cost(false) + env.names[by].size();
-    let allowed = sum(env.allowed, copies)?;
+    let before = env.allowed;
+    env.allowed = sum(before, copies)?;
     match change_by_place(&mut env.names, at, by, statement, h)? {
-        Ok(()) => {
-            env.allowed = allowed;
-            Ok(())
+        Ok(()) => Ok(()),
+        Err(why) => {
+            env.allowed = before;
+            refuse(text, why)
         }
-        Err(why) => refuse(text, why),
     }
 }
 
@@ -143,6 +154,9 @@ pub fn change_by<T: Element<Q>, Q: Stock>(
     ensures env { OnOk result (env_of env.new ≡ (spec.change_by (env_of env.old) name.now other.now true (change_by_of (out-Statement statement.now))).env) }
     ensures text { OnOk result (text.new.items ≡ text.old.items ++ (spec.change_by (env_of env.old) name.now other.now true (change_by_of (out-Statement statement.now))).text) }
     ensures err { OnErr result (text.new.items ≡ text.old.items) }
+    ensures most { OnErr result (env.new.allowed ≤ (spec.change_by (env_of env.old) name.now other.now true (change_by_of (out-Statement statement.now))).env.allowed) }
+    ensures paid { Paid 0 env.old env.new h.old h.new }
+    ensures bare { IsBare T.is_counted env.old.names → OnOk result (Balances T.is_counted 0 env.old.names env.new.names h.old h.new) }
 {
     if name == other {
         change_by_itself(statement, name, env, h, text)

@@ -1,5 +1,5 @@
 // A name with its value, and what one statement does to it.
-ghost use Rattle.std.specs.Prelude.{◌≡◌, ◌+◌, ◌^◌, ◌≤◌, ◌++◌, true, false, length, [], IfOk, OnOk, OnErr, Ok, Err, MatchResult, if◌then◌else◌};
+ghost use Rattle.std.specs.Prelude.{◌≡◌, ◌+◌, ◌^◌, ◌≤◌, ◌<◌, ◌++◌, true, false, not, nat_lt, length, [], ⊤, IsOk, IfOk, OnOk, OnErr, Ok, Err, MatchResult, if◌then◌else◌};
 ghost use Rattle.std.specs.Str.{bytes_eq};
 ghost use Rattle.cow_model.specs.Changes.{change_of, change_by_of, query_of, query_both_of};
 ghost use Rattle.cow_model.specs.Env as environment;
@@ -12,12 +12,12 @@ ghost use Rattle.cow_model.specs.Purse.{less, more};
 ghost use Rattle.cow_model.specs.Sharing.{literals};
 ghost use Rattle.cow_model.specs.Sharing as sharing;
 ghost use Rattle.cow_model.specs.declared.statement.Statement.{out-Statement};
-ghost use Rattle.cow_kinds.specs.Answers.{verdict, reply_of, told_verdict, told_reply};
-ghost use Rattle.cow_model.specs.Atoms.{FitsTexts};
-ghost use Rattle.cow_kinds.specs.Seen.{shared};
+ghost use Rattle.cow_kinds.specs.Answers.{verdict, is_refused, reply_of, told_verdict, told_reply};
+ghost use Rattle.cow_model.specs.Atoms.{FitsTexts, counted_in};
+ghost use Rattle.cow_kinds.specs.Seen.{shared, stop, units};
 ghost use Rattle.cow_kinds.specs.Values.{seen, plain_of, is_alone};
 ghost use Rattle.cow_eval.specs.Envs.{entry_of};
-ghost use Rattle.cow_eval.specs.Entries.{entry_after, refusal_or_full};
+ghost use Rattle.cow_eval.specs.Entries.{entry_after, refusal_or_full, allowed_for, Pays, max_stop};
 
 use crate::values::{is_front, pop, same, self_refusal, size, slice_refusal, stop};
 use cow_cell::{Holder, Stock};
@@ -77,6 +77,7 @@ impl<T: Element<Q>, Q: Stock> Entry<T, Q> {
     /// The most copies of a change of one key.
     pub fn key_cost(&self, key: &Literal) -> usize
         ensures cost { result ≡ sharing.key_cost key.now (entry_of self.now) }
+        ensures flat { result ≡ sharing.own_cost (entry_of self.now) }
         ensures small { result ≤ max_count }
     {
         match &self.value {
@@ -88,6 +89,7 @@ impl<T: Element<Q>, Q: Stock> Entry<T, Q> {
     /// the other is this very value.
     pub fn both_cost(&self, is_one: bool) -> usize
         ensures cost { result ≡ sharing.both_cost (if is_one then environment.shared (entry_of self.now) else entry_of self.now) }
+        ensures flat { result ≡ sharing.own_cost (if is_one then environment.shared (entry_of self.now) else entry_of self.now) }
         ensures small { result ≤ max_count }
     {
         match &self.value {
@@ -135,6 +137,7 @@ impl<T: Element<Q>, Q: Stock> Entry<T, Q> {
             (λ why. spec.slice i j self.old.seen.value ≡ Err why) }
         ensures entry { OnOk result (self.new ≡ record self.old { seen = shared self.old.seen; flag = false }) }
         ensures small { IfOk result (λ v. count (plain_of v) ≤ max_count) }
+        ensures bare { units T.is_counted self.old.seen ≡ 0 → IfOk result (λ v. units T.is_counted (seen v) ≡ 0) }
         ensures spent { OnOk result (h.new ≡ less 1 h.old) }
         ensures refused { OnErr result ((self.new ≡ self.old) × (h.new ≡ h.old)) }
     {
@@ -148,6 +151,13 @@ impl<T: Element<Q>, Q: Stock> Entry<T, Q> {
         ensures { result ≡ refusal_or_full (spec.slice i j self.now.seen.value) }
     {
         slice_refusal(&self.value, i, j)
+    }
+
+    /// Whether an element more would stand at an index that no slice may have. No script comes near it.
+    pub fn is_far(&self) -> bool
+        ensures { result ≡ not (nat_lt (stop self.now.seen.value) max_stop) }
+    {
+        stop(&self.value) >= MAX_STOP
     }
 
     /// Its flag becomes false.
@@ -196,6 +206,7 @@ impl<T: Element<Q>, Q: Stock> Entry<T, Q> {
     pub fn end(self, h: &mut Holder<Q>)
         ensures spare { h.old.spare + 1 ≤ h.new.spare }
         ensures copied { h.new.copied ≡ h.old.copied }
+        ensures bare { units T.is_counted self.seen ≡ 0 → h.new.spare ≡ h.old.spare + 1 }
     {
         self.value.end(h);
     }
@@ -206,6 +217,8 @@ impl<T: Element<Q>, Q: Stock> Entry<T, Q> {
         requires alone { alone ≡ true → is_alone value ≡ true }
         ensures entry { self.new ≡ record self.old { seen = seen value; flag = alone } }
         ensures spare { h.old.spare + 1 ≤ h.new.spare }
+        ensures copied { h.new.copied ≡ h.old.copied }
+        ensures bare { units T.is_counted self.old.seen ≡ 0 → h.new.spare ≡ h.old.spare + 1 }
     {
         self.alone = alone;
         mem::replace(&mut self.value, value).end(h);
@@ -222,15 +235,15 @@ impl<T: Element<Q>, Q: Stock> Entry<T, Q> {
     ) -> Result<Result<(), Refusal>, NoMemory>
         requires texts { FitsTexts (out-Statement statement.now) }
         requires few { literals (out-Statement statement.now) ≤ max_count }
+        requires near { stop self.old.seen.value < max_stop }
         requires spare { 2 ^ 39 ≤ h.old.spare }
         ensures answer { IfOk result (λ r. r ≡ verdict (fitting (change_of (out-Statement statement.now) self.old.seen.value))) }
         ensures entry { OnOk result (entry_of self.new ≡ entry_after (sharing.alone_after (entry_of self.old)) (entry_of self.old) (fitting (change_of (out-Statement statement.now) self.old.seen.value))) }
         ensures reply { OnOk result (text.new.items ≡ text.old.items ++ reply_of (fitting (change_of (out-Statement statement.now) self.old.seen.value))) }
         ensures refused { OnErr result (text.new.items ≡ text.old.items) }
+        ensures told { is_refused (fitting (change_of (out-Statement statement.now) self.old.seen.value)) ≡ true → IsOk result }
+        ensures pays { Pays T.is_counted (literals (out-Statement statement.now) + allowed_for (sharing.own_cost (entry_of self.old)) (fitting (change_of (out-Statement statement.now) self.old.seen.value))) (counted_in T.is_counted (out-Statement statement.now) ≡ 0) self.old self.new h.old h.new }
     {
-        if stop(&self.value) >= MAX_STOP {
-            return Err(NoMemory);
-        }
         if self.alone {
             return self.value.change(alloc, statement, text, h);
         }
@@ -253,6 +266,8 @@ impl<T: Element<Q>, Q: Stock> Entry<T, Q> {
         ensures entry { OnOk result (entry_of self.new ≡ entry_after (sharing.alone_after_pop side (entry_of self.old)) (entry_of self.old) (spec.pop side self.old.seen.value)) }
         ensures reply { OnOk result (text.new.items ≡ text.old.items ++ reply_of (spec.pop side self.old.seen.value)) }
         ensures refused { OnErr result (text.new.items ≡ text.old.items) }
+        ensures told { is_refused (spec.pop side self.old.seen.value) ≡ true → IsOk result }
+        ensures pays { Pays T.is_counted (allowed_for (sharing.pop_cost side (entry_of self.old)) (spec.pop side self.old.seen.value)) ⊤ self.old self.new h.old h.new }
     {
         if self.alone {
             return pop(&mut self.value, side, text, h);
@@ -279,6 +294,8 @@ impl<T: Element<Q>, Q: Stock> Entry<T, Q> {
         ensures answer { IfOk result (λ r. r ≡ verdict (fitting (change_by_of (out-Statement statement.now) self.old.seen.value (plain_of other.now)))) }
         ensures entry { OnOk result (entry_of self.new ≡ entry_after (sharing.alone_after (entry_of self.old)) (entry_of self.old) (fitting (change_by_of (out-Statement statement.now) self.old.seen.value (plain_of other.now)))) }
         ensures silent { reply_of (fitting (change_by_of (out-Statement statement.now) self.old.seen.value (plain_of other.now))) ≡ [] }
+        ensures told { is_refused (fitting (change_by_of (out-Statement statement.now) self.old.seen.value (plain_of other.now))) ≡ true → IsOk result }
+        ensures pays { Pays T.is_counted (allowed_for (sharing.own_cost (entry_of self.old) + plain.size (plain_of other.now)) (fitting (change_by_of (out-Statement statement.now) self.old.seen.value (plain_of other.now)))) (units T.is_counted (seen other.now) ≡ 0) self.old self.new h.old h.new }
     {
         if self.alone {
             return self.value.change_by(statement, other, h);
@@ -301,6 +318,8 @@ impl<T: Element<Q>, Q: Stock> Entry<T, Q> {
         ensures answer { IfOk result (λ r. r ≡ verdict (fitting (change_by_of (out-Statement statement.now) self.old.seen.value other.now.seen.value))) }
         ensures entry { OnOk result (entry_of self.new ≡ entry_after (sharing.alone_after (entry_of self.old)) (entry_of self.old) (fitting (change_by_of (out-Statement statement.now) self.old.seen.value other.now.seen.value))) }
         ensures silent { reply_of (fitting (change_by_of (out-Statement statement.now) self.old.seen.value other.now.seen.value)) ≡ [] }
+        ensures told { is_refused (fitting (change_by_of (out-Statement statement.now) self.old.seen.value other.now.seen.value)) ≡ true → IsOk result }
+        ensures pays { Pays T.is_counted (allowed_for (sharing.own_cost (entry_of self.old) + plain.size other.now.seen.value) (fitting (change_by_of (out-Statement statement.now) self.old.seen.value other.now.seen.value))) (units T.is_counted other.now.seen ≡ 0) self.old self.new h.old h.new }
     {
         self.change_by(statement, &other.value, h)
     }
@@ -316,6 +335,8 @@ impl<T: Element<Q>, Q: Stock> Entry<T, Q> {
         ensures answer { IfOk result (λ r. r ≡ verdict (fitting (change_by_of (out-Statement statement.now) self.old.seen.value self.old.seen.value))) }
         ensures entry { OnOk result (entry_of self.new ≡ entry_after (λ value. false) (entry_of self.old) (fitting (change_by_of (out-Statement statement.now) self.old.seen.value self.old.seen.value))) }
         ensures silent { OnOk result (reply_of (fitting (change_by_of (out-Statement statement.now) self.old.seen.value self.old.seen.value)) ≡ []) }
+        ensures told { is_refused (fitting (change_by_of (out-Statement statement.now) self.old.seen.value self.old.seen.value)) ≡ true → IsOk result }
+        ensures pays { Pays T.is_counted (allowed_for (plain.size self.old.seen.value + plain.size self.old.seen.value) (fitting (change_by_of (out-Statement statement.now) self.old.seen.value self.old.seen.value))) ⊤ self.old self.new h.old h.new }
     {
         if let Some(why) = self_refusal(statement, &self.value) {
             return Ok(Err(why));

@@ -3,8 +3,9 @@ ghost use Rattle.std.specs.Prelude.{◌≡◌, ◌≤◌, ◌+◌, length, ◌++
 ghost use Rattle.cow_model.specs.Env as spec;
 ghost use Rattle.cow_model.specs.Plain.{count, max_count};
 ghost use Rattle.cow_model.specs.Step.{gives};
-ghost use Rattle.cow_kinds.specs.Values.{plain_of, is_alone};
-ghost use Rattle.cow_eval.specs.Envs.{entry_of, env_of};
+ghost use Rattle.cow_kinds.specs.Seen.{units};
+ghost use Rattle.cow_kinds.specs.Values.{seen, plain_of, is_alone};
+ghost use Rattle.cow_eval.specs.Envs.{entry_of, env_of, IsBare, Balances};
 
 use crate::entry::Entry;
 use crate::names::find;
@@ -41,6 +42,7 @@ impl<T: Element<Q>, Q: Stock> Model for Env<T, Q> {
 fn end_all<T: Element<Q>, Q: Stock>(names: Vec<Entry<T, Q>>, h: &mut Holder<Q>)
     ensures spare { h.old.spare + length names.items ≤ h.new.spare }
     ensures copied { h.new.copied ≡ h.old.copied }
+    ensures bare { IsBare T.is_counted names.items → h.new.spare ≡ h.old.spare + length names.items }
 {
     let mut names = names;
     while let Some(entry) = names.pop() {
@@ -51,7 +53,8 @@ fn end_all<T: Element<Q>, Q: Stock>(names: Vec<Entry<T, Q>>, h: &mut Holder<Q>)
 impl<T: Element<Q>, Q: Stock> Env<T, Q> {
     /// No names, 4,194,304 bytes of room for `show`, and nothing allowed yet. Takes no memory.
     pub fn new(alloc: Global) -> Env<T, Q>
-        ensures { env_of result ≡ spec.start }
+        ensures start { env_of result ≡ spec.start }
+        ensures empty { result.names ≡ [] }
     {
         Env {
             names: Vec::new(alloc),
@@ -67,10 +70,12 @@ impl<T: Element<Q>, Q: Stock> Env<T, Q> {
         self.allowed
     }
 
-    /// Gives the handle of every value back: spare rises by at least the number of names.
+    /// Gives the handle of every value back: spare rises by at least the number of names, and by no more where
+    /// no storage holds a counted item.
     pub fn end(self, h: &mut Holder<Q>)
         ensures spare { h.old.spare + length self.names ≤ h.new.spare }
         ensures copied { h.new.copied ≡ h.old.copied }
+        ensures bare { IsBare T.is_counted self.names → h.new.spare ≡ h.old.spare + length self.names }
     {
         end_all(self.names, h);
     }
@@ -95,6 +100,9 @@ impl<T: Element<Q>, Q: Stock> Env<T, Q> {
         requires alone { alone ≡ true → is_alone value ≡ true }
         ensures ok { OnOk result (env_of self.new ≡ record (env_of self.old) { names = (env_of self.old).names ++ (record { name = name.now; value = plain_of value; alone = alone }) ∷ [] }) }
         ensures err { OnErr result (self.new ≡ self.old) }
+        ensures copied { h.new.copied ≡ h.old.copied }
+        ensures falls { h.old.spare ≤ h.new.spare }
+        ensures bare { IsBare T.is_counted self.old.names → units T.is_counted (seen value) ≡ 0 → OnOk result (Balances T.is_counted 1 self.old.names self.new.names h.old h.new) }
     {
         let bytes = match Vec::from_slice(alloc, name) {
             Ok(bytes) => bytes,
@@ -126,6 +134,10 @@ impl<T: Element<Q>, Q: Stock> Env<T, Q> {
         requires alone { alone ≡ true → is_alone value ≡ true }
         ensures there { is_some (spec.place_of name.now (env_of self.old).names) ≡ true → IsOk result }
         ensures ok { OnOk result (env_of self.new ≡ gives name.now (plain_of value) alone (env_of self.old)) }
+        ensures allowed { self.new.allowed ≡ self.old.allowed }
+        ensures copied { h.new.copied ≡ h.old.copied }
+        ensures falls { h.old.spare ≤ h.new.spare }
+        ensures bare { IsBare T.is_counted self.old.names → units T.is_counted (seen value) ≡ 0 → OnOk result (Balances T.is_counted 1 self.old.names self.new.names h.old h.new) }
     {
         match find(&self.names, name) {
             Some(at) => {

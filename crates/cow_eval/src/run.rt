@@ -1,14 +1,16 @@
 // Statements in turn.
-ghost use Rattle.std.specs.Prelude.{◌≡◌, ◌++◌, ◌^◌, ◌≤◌, [], true, All, IsOk, OnOk, OnErr};
+ghost use Rattle.std.specs.Prelude.{◌≡◌, ◌++◌, ◌^◌, ◌≤◌, ◌+◌, ◌*◌, [], true, length, All, IsOk, OnOk, OnErr};
 ghost use Rattle.cow_model.specs.Plain.{max_count};
+ghost use Rattle.cow_model.specs.Purse.{RisesBy, RisesWithin};
 ghost use Rattle.cow_model.specs.Sharing as sharing;
 ghost use Rattle.cow_model.specs.Step as spec;
 ghost use Rattle.cow_model.specs.declared.statement.Statement.{out-Statement};
 ghost use Rattle.cow_model.specs.Fronts.{GrowsWithin};
 ghost use Rattle.cow_model.specs.Run as run;
-ghost use Rattle.cow_model.specs.Atoms.{FitsTexts};
+ghost use Rattle.cow_model.specs.Atoms.{FitsTexts, counted_in, IsBareLayer, IsBareBlock};
 ghost use Rattle.cow_eval.specs.Built.{is_built, IsBuilt, is_free, AreThere};
-ghost use Rattle.cow_eval.specs.Envs.{env_of};
+ghost use Rattle.cow_eval.specs.Entries.{Paid, most_units};
+ghost use Rattle.cow_eval.specs.Envs.{env_of, IsBare, Balances};
 
 use crate::both::change_by;
 use crate::env::Env;
@@ -59,6 +61,8 @@ fn asking<T: Element<Q>, Q: Stock>(
     ensures env { OnOk result (env_of env.new ≡ (spec.asking (env_of env.old) (out-Statement statement.now)).env) }
     ensures text { OnOk result (text.new.items ≡ text.old.items ++ (spec.asking (env_of env.old) (out-Statement statement.now)).text) }
     ensures err { OnErr result (text.new.items ≡ text.old.items) }
+    ensures names { IsBare T.is_counted env.old.names → IsBare T.is_counted env.new.names × (length env.new.names ≡ length env.old.names) }
+    ensures allowed { env.new.allowed ≡ env.old.allowed }
 {
     match statement {
         Statement::Count { name, .. } | Statement::Get { name, .. } => {
@@ -83,6 +87,9 @@ fn changing_by<T: Element<Q>, Q: Stock>(
     ensures env { OnOk result (env_of env.new ≡ (spec.changing_by (env_of env.old) (out-Statement statement.now)).env) }
     ensures text { OnOk result (text.new.items ≡ text.old.items ++ (spec.changing_by (env_of env.old) (out-Statement statement.now)).text) }
     ensures err { OnErr result (text.new.items ≡ text.old.items) }
+    ensures most { OnErr result (env.new.allowed ≤ (spec.changing_by (env_of env.old) (out-Statement statement.now)).env.allowed) }
+    ensures paid { Paid (sharing.literals (out-Statement statement.now)) env.old env.new h.old h.new }
+    ensures bare { IsBare T.is_counted env.old.names → counted_in T.is_counted (out-Statement statement.now) ≡ 0 → OnOk result (Balances T.is_counted 0 env.old.names env.new.names h.old h.new) }
 {
     match statement {
         Statement::Extend { name, other, .. } => {
@@ -107,6 +114,9 @@ fn changing<T: Element<Q>, Q: Stock>(
     ensures env { OnOk result (env_of env.new ≡ (spec.changing (env_of env.old) (out-Statement statement.now)).env) }
     ensures text { OnOk result (text.new.items ≡ text.old.items ++ (spec.changing (env_of env.old) (out-Statement statement.now)).text) }
     ensures err { OnErr result (text.new.items ≡ text.old.items) }
+    ensures most { OnErr result (env.new.allowed ≤ (spec.changing (env_of env.old) (out-Statement statement.now)).env.allowed) }
+    ensures paid { Paid (sharing.literals (out-Statement statement.now)) env.old env.new h.old h.new }
+    ensures bare { IsBare T.is_counted env.old.names → counted_in T.is_counted (out-Statement statement.now) ≡ 0 → OnOk result (Balances T.is_counted 0 env.old.names env.new.names h.old h.new) }
 {
     match statement {
         Statement::Insert { name, atom, .. } | Statement::Remove { name, atom, .. } => {
@@ -143,6 +153,10 @@ fn act<T: Element<Q>, Q: Stock>(
     ensures env { OnOk result (env_of env.new ≡ (spec.act (env_of env.old) [] (out-Statement statement.now)).env) }
     ensures text { OnOk result (text.new.items ≡ text.old.items ++ (spec.act (env_of env.old) [] (out-Statement statement.now)).text) }
     ensures err { OnErr result (text.new.items ≡ text.old.items) }
+    ensures most { OnErr result (env.new.allowed ≤ (spec.act (env_of env.old) [] (out-Statement statement.now)).env.allowed) }
+    ensures least { OnOk result (RisesBy (run.least_layer (env_of env.old) (out-Statement statement.now)) h.old h.new) }
+    ensures paid { Paid (sharing.literals (out-Statement statement.now)) env.old env.new h.old h.new }
+    ensures bare { IsBare T.is_counted env.old.names → counted_in T.is_counted (out-Statement statement.now) ≡ 0 → OnOk result (Balances T.is_counted 0 env.old.names env.new.names h.old h.new) }
 {
     match statement {
         Statement::Let {
@@ -211,6 +225,11 @@ pub fn run_statement<T: Element<Q>, Q: Stock>(
     ensures env { OnOk result (env_of env.new ≡ (spec.step (env_of env.old) [] (out-Statement statement.now)).env) }
     ensures text { OnOk result (text.new.items ≡ text.old.items ++ (spec.step (env_of env.old) [] (out-Statement statement.now)).text) }
     ensures err { OnErr result (text.new.items ≡ text.old.items) }
+    ensures most { OnErr result (env.new.allowed ≤ (spec.step (env_of env.old) [] (out-Statement statement.now)).env.allowed) }
+    ensures copied { RisesWithin env.old.allowed env.new.allowed h.old h.new }
+    ensures least { OnOk result (RisesBy (run.least_layer (env_of env.old) (out-Statement statement.now)) h.old h.new) }
+    ensures falls { h.old.spare ≤ h.new.spare + most_units }
+    ensures bare { IsBare T.is_counted env.old.names → IsBareLayer T.is_counted (out-Statement statement.now) → OnOk result (Balances T.is_counted 0 env.old.names env.new.names h.old h.new) }
 {
     let atoms = literals(statement);
     if atoms > MAX_ATOMS {
@@ -233,6 +252,11 @@ fn run_one<T: Element<Q>, Q: Stock>(
     ensures env { OnOk result (env_of env.new ≡ (run.run_one (env_of env.old) [] statement.now).env) }
     ensures text { OnOk result (text.new.items ≡ text.old.items ++ (run.run_one (env_of env.old) [] statement.now).text) }
     ensures err { OnErr result (text.new.items ≡ text.old.items) }
+    ensures most { OnErr result (env.new.allowed ≤ (run.run_one (env_of env.old) [] statement.now).env.allowed) }
+    ensures copied { RisesWithin env.old.allowed env.new.allowed h.old h.new }
+    ensures least { OnOk result (RisesBy (run.least_layer (env_of env.old) (out-Statement statement.now)) h.old h.new) }
+    ensures falls { h.old.spare ≤ h.new.spare + most_units }
+    ensures bare { IsBare T.is_counted env.old.names → IsBareLayer T.is_counted (out-Statement statement.now) → OnOk result (Balances T.is_counted 0 env.old.names env.new.names h.old h.new) }
 {
     if h.spare() < LEAST_SPARE {
         return Err(NoMemory);
@@ -259,6 +283,11 @@ pub fn run_block<T: Element<Q>, Q: Stock>(
     ensures env { OnOk result (env_of env.new ≡ run.env_after (env_of env.old) [] block.now) }
     ensures text { OnOk result (text.new.items ≡ text.old.items ++ run.text_from (env_of env.old) [] block.now) }
     ensures err { OnErr result (GrowsWithin text.old.items text.new.items (run.text_from (env_of env.old) [] block.now)) }
+    ensures most { OnErr result (env.new.allowed ≤ (run.env_after (env_of env.old) [] block.now).allowed) }
+    ensures copied { RisesWithin env.old.allowed env.new.allowed h.old h.new }
+    ensures least { OnOk result (RisesBy (run.least_from (env_of env.old) [] block.now) h.old h.new) }
+    ensures falls { h.old.spare ≤ h.new.spare + length block.now * most_units }
+    ensures bare { IsBare T.is_counted env.old.names → IsBareBlock T.is_counted block.now → OnOk result (Balances T.is_counted 0 env.old.names env.new.names h.old h.new) }
 {
     for statement in block {
         run_one(alloc, statement, env, h, text)?;

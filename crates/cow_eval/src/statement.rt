@@ -1,16 +1,18 @@
 // One statement, as its definition says.
-ghost use Rattle.std.specs.Prelude.{◌≡◌, ◌++◌, ◌^◌, ◌≤◌, ◌+◌, IfOk, IsOk, is_some, true, false, length, All, OnOk, OnErr};
+ghost use Rattle.std.specs.Prelude.{◌≡◌, ◌++◌, ◌^◌, ◌≤◌, ◌+◌, IfOk, IsOk, is_some, true, false, length, count_by, All, OnOk, OnErr, if◌then◌else◌};
 ghost use Rattle.cow_model.specs.Changes.{change_of, change_by_of, query_of, query_both_of};
-ghost use Rattle.cow_model.specs.Env.{place_of};
+ghost use Rattle.cow_model.specs.Env.{place_of, has_place};
 ghost use Rattle.cow_model.specs.Literals.{FitsText};
 ghost use Rattle.cow_model.specs.Operation as operation;
 ghost use Rattle.cow_model.specs.Plain.{max_count};
 ghost use Rattle.cow_model.specs.Printed.{line, plain_text, refusal};
+ghost use Rattle.cow_model.specs.Purse.{RisesBy};
 ghost use Rattle.cow_model.specs.Sharing.{literals};
 ghost use Rattle.cow_model.specs.Step as spec;
 ghost use Rattle.cow_model.specs.declared.statement.Statement.{out-Statement};
-ghost use Rattle.cow_model.specs.Atoms.{FitsTexts};
-ghost use Rattle.cow_eval.specs.Envs.{env_of};
+ghost use Rattle.cow_model.specs.Atoms.{FitsTexts, counted_in};
+ghost use Rattle.cow_eval.specs.Entries.{Paid};
+ghost use Rattle.cow_eval.specs.Envs.{env_of, IsBare, Balances};
 
 use crate::entry::Entry;
 use crate::env::Env;
@@ -46,6 +48,10 @@ pub fn make<T: Element<Q>, Q: Stock>(
     ensures env { OnOk result (env_of env.new ≡ (spec.let_in (env_of env.old) name.now (operation.made kind atoms.now)).env) }
     ensures text { OnOk result (text.new.items ≡ text.old.items ++ (spec.let_in (env_of env.old) name.now (operation.made kind atoms.now)).text) }
     ensures err { OnErr result (text.new.items ≡ text.old.items) }
+    ensures allowed { env.new.allowed ≡ env.old.allowed }
+    ensures least { OnOk result (RisesBy (if has_place name.now (env_of env.old).names then length atoms.now else 0) h.old h.new) }
+    ensures paid { Paid (length atoms.now) env.old env.new h.old h.new }
+    ensures bare { IsBare T.is_counted env.old.names → count_by T.is_counted atoms.now ≡ 0 → OnOk result (Balances T.is_counted 0 env.old.names env.new.names h.old h.new) }
 {
     if !env.has_place(name) {
         return refuse(text, Refusal::Full);
@@ -68,6 +74,9 @@ pub fn assign<T: Element<Q>, Q: Stock>(
     ensures env { OnOk result (env_of env.new ≡ (spec.assign_in (env_of env.old) name.now other.now).env) }
     ensures text { OnOk result (text.new.items ≡ text.old.items ++ (spec.assign_in (env_of env.old) name.now other.now).text) }
     ensures err { OnErr result (text.new.items ≡ text.old.items) }
+    ensures allowed { env.new.allowed ≡ env.old.allowed }
+    ensures paid { Paid 0 env.old env.new h.old h.new }
+    ensures bare { IsBare T.is_counted env.old.names → OnOk result (Balances T.is_counted 0 env.old.names env.new.names h.old h.new) }
 {
     let Some(from) = find(&env.names, other) else {
         return refuse(text, Refusal::NoName);
@@ -94,6 +103,9 @@ pub fn slice<T: Element<Q>, Q: Stock>(
     ensures env { OnOk result (env_of env.new ≡ (spec.slice_in (env_of env.old) name.now other.now i j).env) }
     ensures text { OnOk result (text.new.items ≡ text.old.items ++ (spec.slice_in (env_of env.old) name.now other.now i j).text) }
     ensures err { OnErr result (text.new.items ≡ text.old.items) }
+    ensures allowed { env.new.allowed ≡ env.old.allowed }
+    ensures paid { Paid 0 env.old env.new h.old h.new }
+    ensures bare { IsBare T.is_counted env.old.names → OnOk result (Balances T.is_counted 0 env.old.names env.new.names h.old h.new) }
 {
     let Some(from) = find(&env.names, other) else {
         return refuse(text, Refusal::NoName);
@@ -118,6 +130,9 @@ pub fn discard<T: Element<Q>, Q: Stock>(
     ensures env { OnOk result (env_of env.new ≡ (spec.discard_in (env_of env.old) name.now).env) }
     ensures text { OnOk result (text.new.items ≡ text.old.items ++ (spec.discard_in (env_of env.old) name.now).text) }
     ensures err { OnErr result (text.new.items ≡ text.old.items) }
+    ensures allowed { env.new.allowed ≡ env.old.allowed }
+    ensures paid { Paid 0 env.old env.new h.old h.new }
+    ensures bare { IsBare T.is_counted env.old.names → OnOk result (Balances T.is_counted 0 env.old.names env.new.names h.old h.new) }
 {
     let Some(at) = find(&env.names, name) else {
         return refuse(text, Refusal::NoName);
@@ -160,6 +175,8 @@ pub fn show<T: Element<Q>, Q: Stock>(
     ensures env { OnOk result (env_of env.new ≡ (spec.show_in (env_of env.old) name.now).env) }
     ensures text { OnOk result (text.new.items ≡ text.old.items ++ (spec.show_in (env_of env.old) name.now).text) }
     ensures err { OnErr result (text.new.items ≡ text.old.items) }
+    ensures names { IsBare T.is_counted env.old.names → IsBare T.is_counted env.new.names × (length env.new.names ≡ length env.old.names) }
+    ensures allowed { env.new.allowed ≡ env.old.allowed }
 {
     let Some(at) = find(&env.names, name) else {
         return refuse(text, Refusal::NoName);
@@ -206,6 +223,8 @@ pub fn ask_both<T: Element<Q>, Q: Stock>(
     ensures env { OnOk result (env_of env.new ≡ (spec.ask_both (env_of env.old) name.now other.now (query_both_of (out-Statement statement.now))).env) }
     ensures text { OnOk result (text.new.items ≡ text.old.items ++ (spec.ask_both (env_of env.old) name.now other.now (query_both_of (out-Statement statement.now))).text) }
     ensures err { OnErr result (text.new.items ≡ text.old.items) }
+    ensures names { IsBare T.is_counted env.old.names → IsBare T.is_counted env.new.names × (length env.new.names ≡ length env.old.names) }
+    ensures allowed { env.new.allowed ≡ env.old.allowed }
 {
     let Some(at) = find(&env.names, name) else {
         return refuse(text, Refusal::NoName);
@@ -239,18 +258,25 @@ pub fn change<T: Element<Q>, Q: Stock>(
     ensures env { OnOk result (env_of env.new ≡ (spec.change (env_of env.old) name.now (change_of (out-Statement statement.now))).env) }
     ensures text { OnOk result (text.new.items ≡ text.old.items ++ (spec.change (env_of env.old) name.now (change_of (out-Statement statement.now))).text) }
     ensures err { OnErr result (text.new.items ≡ text.old.items) }
+    ensures most { OnErr result (env.new.allowed ≤ (spec.change (env_of env.old) name.now (change_of (out-Statement statement.now))).env.allowed) }
+    ensures paid { Paid (literals (out-Statement statement.now)) env.old env.new h.old h.new }
+    ensures bare { IsBare T.is_counted env.old.names → counted_in T.is_counted (out-Statement statement.now) ≡ 0 → OnOk result (Balances T.is_counted 0 env.old.names env.new.names h.old h.new) }
 {
     let Some(at) = find(&env.names, name) else {
         return refuse(text, Refusal::NoName);
     };
     let entry = &mut env.names[at];
-    let allowed = sum(env.allowed, entry.own_cost())?;
+    if entry.is_far() {
+        return Err(NoMemory);
+    }
+    let before = env.allowed;
+    env.allowed = sum(before, entry.own_cost())?;
     match entry.change(alloc, statement, text, h)? {
-        Ok(()) => {
-            env.allowed = allowed;
-            Ok(())
+        Ok(()) => Ok(()),
+        Err(why) => {
+            env.allowed = before;
+            refuse(text, why)
         }
-        Err(why) => refuse(text, why),
     }
 }
 
@@ -270,18 +296,25 @@ pub fn change_key<T: Element<Q>, Q: Stock>(
     ensures env { OnOk result (env_of env.new ≡ (spec.change_key (env_of env.old) name.now key.now (change_of (out-Statement statement.now))).env) }
     ensures text { OnOk result (text.new.items ≡ text.old.items ++ (spec.change_key (env_of env.old) name.now key.now (change_of (out-Statement statement.now))).text) }
     ensures err { OnErr result (text.new.items ≡ text.old.items) }
+    ensures most { OnErr result (env.new.allowed ≤ (spec.change_key (env_of env.old) name.now key.now (change_of (out-Statement statement.now))).env.allowed) }
+    ensures paid { Paid (literals (out-Statement statement.now)) env.old env.new h.old h.new }
+    ensures bare { IsBare T.is_counted env.old.names → counted_in T.is_counted (out-Statement statement.now) ≡ 0 → OnOk result (Balances T.is_counted 0 env.old.names env.new.names h.old h.new) }
 {
     let Some(at) = find(&env.names, name) else {
         return refuse(text, Refusal::NoName);
     };
     let entry = &mut env.names[at];
-    let allowed = sum(env.allowed, entry.key_cost(key))?;
+    if entry.is_far() {
+        return Err(NoMemory);
+    }
+    let before = env.allowed;
+    env.allowed = sum(before, entry.key_cost(key))?;
     match entry.change(alloc, statement, text, h)? {
-        Ok(()) => {
-            env.allowed = allowed;
-            Ok(())
+        Ok(()) => Ok(()),
+        Err(why) => {
+            env.allowed = before;
+            refuse(text, why)
         }
-        Err(why) => refuse(text, why),
     }
 }
 
@@ -297,17 +330,21 @@ pub fn pop<T: Element<Q>, Q: Stock>(
     ensures env { OnOk result (env_of env.new ≡ (spec.pop_in (env_of env.old) name.now side).env) }
     ensures text { OnOk result (text.new.items ≡ text.old.items ++ (spec.pop_in (env_of env.old) name.now side).text) }
     ensures err { OnErr result (text.new.items ≡ text.old.items) }
+    ensures most { OnErr result (env.new.allowed ≤ (spec.pop_in (env_of env.old) name.now side).env.allowed) }
+    ensures paid { Paid 0 env.old env.new h.old h.new }
+    ensures bare { IsBare T.is_counted env.old.names → OnOk result (Balances T.is_counted 0 env.old.names env.new.names h.old h.new) }
 {
     let Some(at) = find(&env.names, name) else {
         return refuse(text, Refusal::NoName);
     };
     let entry = &mut env.names[at];
-    let allowed = sum(env.allowed, entry.pop_cost(side))?;
+    let before = env.allowed;
+    env.allowed = sum(before, entry.pop_cost(side))?;
     match entry.pop(side, text, h)? {
-        Ok(()) => {
-            env.allowed = allowed;
-            Ok(())
+        Ok(()) => Ok(()),
+        Err(why) => {
+            env.allowed = before;
+            refuse(text, why)
         }
-        Err(why) => refuse(text, why),
     }
 }
