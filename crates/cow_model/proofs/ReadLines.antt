@@ -1,8 +1,6 @@
 -- What a line of a script adds to the statements outside of forks: one at most, and what a line reads has a property.
-use Rattle.std.proofs.Common.{ℕ, ◌+◌, List, [], ◌∷◌, ◌++◌, Bool, true, false}
-use Rattle.std.specs.Prelude.{not, ◌==◌, codes, Result, Ok, Err, IfOk}
-use Rattle.cow_model.specs.declared.fault.Flaw.{Flaw}
-use Rattle.cow_model.specs.declared.fault.Flaw.TheVariants as flaw
+use Rattle.std.proofs.Common.{ℕ, List, [], ◌∷◌, ◌++◌}
+use Rattle.std.specs.Prelude.{Ok, IfOk}
 use Rattle.cow_model.specs.declared.reading.Reading.{Reading}
 use Rattle.cow_model.specs.declared.reading.Standing.{Standing}
 use Rattle.cow_model.specs.declared.reading.Standing.TheVariants.{Outside, InFork, InTask}
@@ -13,10 +11,9 @@ use Rattle.cow_model.specs.declared.word.Form.{Form}
 use Rattle.cow_model.specs.declared.word.Word.{Word}
 use Rattle.cow_model.specs.declared.word.Word.TheVariants as word
 use Rattle.cow_model.specs.Lexis.{Text, is_printable, tokens_of}
-use Rattle.cow_model.specs.Words.{word_of}
-use Rattle.cow_model.specs.Readers.{and_then, or_flaw, no_more, all_captures}
+use Rattle.cow_model.specs.Readers.{no_more, all_captures}
 use Rattle.cow_model.specs.Forms.{statement_of}
-use Rattle.cow_model.specs.Parse.{stated_at, ended_at, stands, counted, stated, forked, tasked, ended, read_on, told, is_remark, remark, with_tokens, with_line}
+use Rattle.cow_model.specs.Parse.{stated_at, ended_at, stated, forked, tasked, ended, read_on, told, is_remark, remark, with_tokens, with_line}
 use Rattle.cow_model.proofs.ReadSteps.{Reads, and_then_if, and_then_any, either_if}
 
 -- the statements stay, or one more that has P stands behind them

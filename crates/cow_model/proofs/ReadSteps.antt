@@ -1,9 +1,9 @@
 -- Whatever a reader reads has a property: how that passes on through the steps of a reader.
-use Rattle.std.proofs.Common.{ℕ, List, [], ◌∷◌, Bool, true, false}
+use Rattle.std.proofs.Common.{◌≡◌, refl, List, [], ◌∷◌, Bool, true, false}
 use Rattle.std.specs.Prelude.{Result, Ok, Err, IfOk, if◌then◌else◌}
 use Rattle.cow_model.specs.declared.fault.Flaw.{Flaw}
 use Rattle.cow_model.specs.Lexis.{Text}
-use Rattle.cow_model.specs.Readers.{Reader, and_then, ◌>>=◌, ◌>>◌, pure, due}
+use Rattle.cow_model.specs.Readers.{Reader, and_then, ◌>>=◌, due}
 
 -- whatever is read has P
 abbrev pub Reads : {A : Type 0} → (A → Type 0) → Reader A → Type 0
@@ -23,6 +23,16 @@ and_then_any Q (Err flaw) next q = tt
 pub either_if : {A : Type 0} (Q : A → Type 0) (b : Bool) (x y : Result A Flaw) → IfOk x Q → IfOk y Q → IfOk (if b then x else y) Q
 either_if Q true x y p q = p
 either_if Q false x y p q = q
+
+-- a branch that a test leads to
+pub where_if : {A : Type 0} (Q : A → Type 0) (b : Bool) (x y : Result A Flaw) → (b ≡ true → IfOk x Q) → IfOk y Q → IfOk (if b then x else y) Q
+where_if Q true x y p q = p refl
+where_if Q false x y p q = q
+
+-- one of two readers
+pub reads_either : {A : Type 0} (P : A → Type 0) (b : Bool) (x y : Reader A) → Reads P x → Reads P y → Reads P (if b then x else y)
+reads_either P true x y p q = p
+reads_either P false x y p q = q
 
 -- one reader, and then another, which needs what the first has read
 pub reads_then : {A B : Type 0} (P : A → Type 0) (Q : B → Type 0) (reader : Reader A) (next : A → Reader B) → Reads P reader → ((x : A) → P x → Reads Q (next x)) → Reads Q (reader >>= next)
