@@ -6,10 +6,11 @@
 //!
 //! - A call answers what the definitions of `cow_model` say: the same refusal, or the same value and the same
 //!   reply. The definitions are `change_of`, `pop`, `change_by_of`, `query_of`, `query_both_of` and `slice`.
-//! - A refused statement changes nothing and makes no element. Want of memory leaves value and text as they
-//!   were, and an alone value alone.
+//! - A refused statement changes nothing, makes no element and leaves the holder as it was; it is refused also
+//!   where there is no memory. Want of memory leaves value and text as they were, and an alone value alone.
 //! - `copied` rises by no more than the literals of the statement and, where the value isn't alone, its
-//!   size. Spare moves by no more than the units that are held or brought in: where there are none, it stays.
+//!   size. Spare moves by no more than the units that are held or brought in: where there are none, it stays,
+//!   and none are there afterwards.
 //!
 //! The enum keeps no invariant beyond those of its kinds. The layer above uses the calls of [`Value`] alone: it
 //! finds the names, keeps the flags, prints the refusals and bounds the text of `show`.

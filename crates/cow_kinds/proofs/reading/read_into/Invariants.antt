@@ -1,4 +1,4 @@
-use Rattle.std.proofs.Common.{◌≡◌, ◌+◌, map, take, count_by, arith}
+use Rattle.std.proofs.Common.{◌≡◌, ◌+◌, map, take, count_by}
 use Rattle.cow_model.specs.Purse.{noted}
 use Rattle.cow_kinds.proofs.reading.read_into.Given as goal
 
