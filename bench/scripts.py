@@ -1,82 +1,152 @@
-"""Times the program on the largest scripts: python3 bench/scripts.py [RUNS]
+"""Times the program on large scripts, the array workloads of the language among them:
+python3 bench/scripts.py [RUNS]
 
-Makes the scripts, runs the proved program on each RUNS times (5), and prints the least seconds of a run,
-the bytes read and written, and the nanoseconds a byte of both. Nothing here is part of the tests.
+Makes the scripts, runs the proved program on each RUNS times (5), and prints the least seconds of a run, the
+bytes read and written, the nanoseconds a byte of both, and the census: how many elements were copied, and how
+many the sharing rule allows. A row of a workload and the row of its double show how it grows. Nothing here is
+part of the tests.
 """
 import os
+import re
 import subprocess
 import sys
 import time
 
 TOP = os.path.dirname(os.path.dirname(os.path.abspath(__file__)))
+PROGRAM = f"{TOP}/crates/cowrun/out/cowrun"
+CENSUS = re.compile(rb"copied (\d+) of at most (\d+)\n\Z")
 
 
-def one_long_line():
-    """65,536 integers on one line, shown once."""
-    atoms = " ".join(str((i * 7919) % 1000003 - 500000) for i in range(65536))
-    return f"let a = array {atoms}\nshow a\n"
+def array(name, count):
+    """A line that makes an array of so many integers."""
+    atoms = " ".join(str((i * 7919) % 1000003 - 500000) for i in range(count))
+    return f"let {name} = array {atoms}"
+
+
+def long_line(count):
+    """So many integers on one line, shown once."""
+    return [array("a", count), "show a"]
 
 
 def short_lines(count):
     """Many short lines, each of which prints."""
-    return "let a = array 1 2 3\n" + "show a\n" * count
+    return ["let a = array 1 2 3"] + ["show a"] * count
 
 
 def appends(count):
     """An array made by appends, and shown once."""
-    lines = ["let a = array"] + [f"append a {i}" for i in range(count)] + ["show a"]
-    return "\n".join(lines) + "\n"
+    return ["let a = array"] + [f"append a {i}" for i in range(count)] + ["show a"]
 
 
-def copies(count):
-    """Copies of an array of 65,536 elements, each followed by an append to an array of a few."""
-    atoms = " ".join("1" for _ in range(65536))
-    lines = [f"let a = array {atoms}", "let b = array 1"]
+def assignments(count):
+    """Copies of an array of 65,536 elements, which nothing changes."""
+    return [array("a", 65536)] + ["let c = a"] * count
+
+
+def changes_of_copies(count):
+    """Copies of an array of 1,000 elements, each of which is changed once."""
+    return [array("a", 1000)] + ["let b = a", "set b 0 7"] * count
+
+
+def changes_of_a_moved_array(count):
+    """An array of 1,000 elements that goes from name to name, and is changed under each."""
+    lines = [array("a", 1000)]
     for _ in range(count):
-        lines += ["let c = a", "append b 2"]
-    return "\n".join(lines + ["show b"]) + "\n"
+        lines += ["let b = a", "drop a", "append b 1", "pop b last", "let a = b", "drop b"]
+    return lines
 
 
-def blanks():
-    """1,048,576 newlines."""
-    return "\n" * 1048576
+def many_aliases(count):
+    """64 names of one array of 1,000 elements, which are changed in turn."""
+    names = [f"n{i}" for i in range(64)]
+    lines = [array(names[0], 1000)] + [f"let {name} = {names[0]}" for name in names[1:]]
+    return lines + [f"set {names[i % 64]} 5 {i}" for i in range(count)]
 
 
-SCRIPTS = [
-    ("one line of 65,536 integers", one_long_line()),
-    ("15,000 short lines", short_lines(15000)),
-    ("30,000 short lines", short_lines(30000)),
-    ("60,000 short lines", short_lines(60000)),
-    ("7,500 appends", appends(7500)),
-    ("15,000 appends", appends(15000)),
-    ("30,000 appends", appends(30000)),
-    ("1 copy of 65,536 elements", copies(1)),
-    ("100 copies of 65,536 elements", copies(100)),
-    ("1,048,576 newlines", blanks()),
+def inserts_and_removals(count):
+    """Inserts and removals in the middle of an array of 10,000 elements."""
+    return [array("a", 10000)] + ["insert a 5000 1", "remove a 5000"] * count
+
+
+def splices(count):
+    """Splices in an array of 10,000 elements."""
+    return [array("a", 10000)] + ["splice a 100 104 1 2 3 4"] * count
+
+
+def slices(count):
+    """Slices of an array of 10,000 elements, of which the first few are taken."""
+    return [array("a", 10000)] + ["let s = slice a 10 9000", "pop s first", "pop s first"] * count
+
+
+def doublings(count):
+    """An array that is extended by itself up to 32,768 elements, over and over."""
+    return (["let a = array 1"] + ["extend a a"] * 15) * count
+
+
+def comparisons(count):
+    """Comparisons of two arrays of 10,000 elements each."""
+    return [array("a", 10000), array("b", 10000)] + ["equal a b"] * count
+
+
+def reversals(count):
+    """Reversals of an array of 10,000 elements."""
+    return [array("a", 10000)] + ["reverse a"] * count
+
+
+def reads(count):
+    """Reads of an array of 10,000 elements, by position."""
+    return [array("a", 10000)] + [f"get a {i % 10000}" for i in range(count)]
+
+
+def blanks(count):
+    """Empty lines."""
+    return [""] * count
+
+
+WORKLOADS = [
+    ("integers on one line", long_line, [32768, 65536]),
+    ("short lines", short_lines, [15000, 30000, 60000]),
+    ("appends", appends, [15000, 30000, 60000]),
+    ("assignments", assignments, [10000, 20000, 40000]),
+    ("changes of copies", changes_of_copies, [5000, 10000, 20000]),
+    ("changes of a moved array", changes_of_a_moved_array, [3000, 6000, 12000]),
+    ("changes under 64 names", many_aliases, [10000, 20000, 40000]),
+    ("inserts and removals", inserts_and_removals, [5000, 10000, 20000]),
+    ("splices", splices, [5000, 10000, 20000]),
+    ("slices, and pops", slices, [5000, 10000, 20000]),
+    ("doublings to 32,768", doublings, [100, 200, 400]),
+    ("comparisons", comparisons, [5000, 10000, 20000]),
+    ("reversals", reversals, [5000, 10000, 20000]),
+    ("reads by position", reads, [15000, 30000, 60000]),
+    ("empty lines", blanks, [524288, 1048576]),
 ]
 
 
-def seconds_of(script):
+def run(script):
+    """The seconds of one run, the bytes written before the census, and the census's two numbers."""
     start = time.perf_counter()
-    run = subprocess.run([f"{TOP}/crates/cowrun/out/cowrun", "run"], input=script, capture_output=True)
+    done = subprocess.run([PROGRAM, "run", "--census"], input=script, capture_output=True)
     taken = time.perf_counter() - start
-    if run.returncode != 0:
-        sys.exit(f"the program ended with status {run.returncode}: {run.stdout[:200]!r}")
-    return taken, len(run.stdout)
+    census = CENSUS.search(done.stdout)
+    if done.returncode != 0 or census is None:
+        sys.exit(f"the program ended with status {done.returncode}: {done.stdout[:200]!r}")
+    return taken, census.start(), int(census[1]), int(census[2])
 
 
 def main(runs):
     subprocess.run([f"{TOP}/bin/cowrun", "run"], input=b"")  # builds the program where it has to
-    idle = min(seconds_of(b"")[0] for _ in range(runs))
+    idle = min(run(b"")[0] for _ in range(runs))
     print(f"an empty script takes {idle:.4f} s, which is taken off each line below")
-    print(f"{'script':32} {'seconds':>9} {'read':>9} {'written':>9} {'ns a byte':>9}")
-    for name, text in SCRIPTS:
-        script = text.encode()
-        took = [seconds_of(script) for _ in range(runs)]
-        least, written = min(took)
-        net = max(least - idle, 0.0)
-        each = 1e9 * net / (len(script) + written)
-        print(f"{name:32} {net:9.4f} {len(script):9} {written:9} {each:9.1f}")
+    print(f"{'script':32} {'seconds':>8} {'read':>8} {'written':>8} {'ns a byte':>9} {'copied':>11} {'at most':>11}")
+    for name, workload, counts in WORKLOADS:
+        for count in counts:
+            script = "".join(line + "\n" for line in workload(count)).encode()
+            if len(script) > 1048576:
+                sys.exit(f"{count} {name}: {len(script)} bytes are too many")
+            least, written, copied, most = min(run(script) for _ in range(runs))
+            net = max(least - idle, 0.0)
+            each = 1e9 * net / (len(script) + written)
+            print(f"{f'{count:,} {name}':32} {net:8.4f} {len(script):8} {written:8} {each:9.1f} {copied:11} {most:11}")
 
 
 main(int(sys.argv[1]) if len(sys.argv) > 1 else 5)

@@ -27,7 +27,7 @@ layer_allows env shapes (Statement-F.Fork l tasks) = omega (arith, fork_keeps en
 layer_allows env shapes s = step_allows env shapes s
 
 -- statements in turn allow what they make, at least
-least_allowed : (env : Environment) (shapes : List Shape) (ss : List Statement) → env.allowed + least_from env shapes ss ≤ (env_after env shapes ss).allowed
+pub least_allowed : (env : Environment) (shapes : List Shape) (ss : List Statement) → env.allowed + least_from env shapes ss ≤ (env_after env shapes ss).allowed
 least_allowed env shapes [] = omega arith
 least_allowed env shapes (s ∷ ss) =
     omega (arith, least_literals env (out-Statement s), layer_allows env shapes (out-Statement s), least_allowed (run_one env shapes s).env shapes ss)

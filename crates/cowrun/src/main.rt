@@ -8,7 +8,6 @@
 ghost use Rattle.cow_cell.specs.Opens.{Opens};
 
 mod command;
-mod fitting;
 mod input;
 mod lines;
 mod output;

@@ -1,20 +1,24 @@
 // Running a script: from a source to a sink.
-ghost use Rattle.std.specs.Prelude.{◌≡◌, ◌≢◌, ◌^◌, ◌≤◌, [], true, None, length, OnOk, OnErr, IsErrOf};
+ghost use Rattle.std.specs.Prelude.{◌≡◌, ◌≢◌, ◌+◌, ◌^◌, ◌≤◌, [], true, None, length, OnOk, OnErr, IsErrOf};
 ghost use Rattle.std.specs.Io.KnownBytes.{Appends};
 ghost use Rattle.cow_model.specs.Env.{start};
-ghost use Rattle.cow_model.specs.Purse.{whole};
-ghost use Rattle.cow_model.specs.Run.{run_one, text_of, bound};
+ghost use Rattle.cow_model.specs.Atoms.{FitsTexts, IsBareLayer};
+ghost use Rattle.cow_model.specs.Literals.{is_text};
+ghost use Rattle.cow_model.specs.Plain.{max_count};
+ghost use Rattle.cow_model.specs.Purse.{whole, RisesBy, RisesWithin};
+ghost use Rattle.cow_model.specs.Run.{run_one, text_of, bound, least_layer, least};
+ghost use Rattle.cow_model.specs.Sharing.{literals};
 ghost use Rattle.cow_model.specs.declared.statement.Statement.{out-Statement};
 ghost use Rattle.cow_eval.specs.Built.{is_built};
 ghost use Rattle.cow_eval.specs.Built as built;
-ghost use Rattle.cow_eval.specs.Envs.{env_of};
+ghost use Rattle.cow_eval.specs.Entries.{most_units};
+ghost use Rattle.cow_eval.specs.Envs.{env_of, IsBare, Balances};
 ghost use Rattle.cow_port.specs.Causes.{Rose};
 ghost use Rattle.cowrun.specs.Input.{max_bytes};
 ghost use Rattle.cowrun.specs.Output.{WritesFront};
-ghost use Rattle.cowrun.specs.Answer.{Answers, whole_text};
-ghost use Rattle.cowrun.specs.Runs.{SaysUnits, StatementsAnswered, BytesAnswered};
+ghost use Rattle.cowrun.specs.Answer.{Answers, IsBareScript, stock_units, whole_text};
+ghost use Rattle.cowrun.specs.Runs.{IsRead, SaysUnits, StatementsAnswered, BytesAnswered};
 
-use crate::fitting::fits;
 use crate::input::{ReadStop, read_all};
 use crate::output::{write_all, write_census, write_fault, write_not_built};
 use crate::status::Status;
@@ -28,9 +32,6 @@ use std::alloc::Global;
 
 /// The units of a stock.
 const STOCK: u64 = 0x4000_0000_0000_0000;
-
-/// The units that a statement may need. No script comes near the want of them.
-const LEAST_SPARE: u64 = 0x100_0000_0000;
 
 /// The fault of a script of more than 1,048,576 bytes.
 const TOO_LONG: ParseFault = ParseFault::Limit {
@@ -78,15 +79,20 @@ fn run_and_write<Q: Stock, K: Sink>(
     h: &mut Holder<Q>,
 ) -> Result<(), RunStop>
     requires built { is_built (out-Statement statement.now) ≡ true }
+    requires texts { FitsTexts (out-Statement statement.now) }
+    requires few { literals (out-Statement statement.now) ≤ max_count }
+    requires spare { 2 ^ 40 ≤ h.old.spare }
     ensures env { OnOk result (env_of env.new ≡ (run_one (env_of env.old) [] statement.now).env) }
     ensures ok { OnOk result (Appends (K.held sink.old) (K.held sink.new) (run_one (env_of env.old) [] statement.now).text) }
     ensures err { OnErr result (WritesFront (K.held sink.old) (K.held sink.new) (run_one (env_of env.old) [] statement.now).text) }
+    ensures most { env.new.allowed ≤ (run_one (env_of env.old) [] statement.now).env.allowed }
+    ensures copied { RisesWithin env.old.allowed env.new.allowed h.old h.new }
+    ensures least { OnOk result (RisesBy (least_layer (env_of env.old) (out-Statement statement.now)) h.old h.new) }
+    ensures falls { h.old.spare ≤ h.new.spare + most_units }
+    ensures bare { IsBare is_text env.old.names → IsBareLayer is_text (out-Statement statement.now) → OnOk result (Balances is_text 0 env.old.names env.new.names h.old h.new) }
     ensures fault { IsErrOf result RunStop.WriteFault → Rose (K.faults sink.old) (K.faults sink.new) }
     ensures later { K.faults sink.old ≤ K.faults sink.new }
 {
-    if h.spare() < LEAST_SPARE || !fits(statement) {
-        return Err(RunStop::NoMemory);
-    }
     text.clear();
     run_statement(alloc, statement, env, h, text)?;
     write_all(sink, text)?;
@@ -102,11 +108,16 @@ fn run_statements<Q: Stock, K: Sink>(
     h: &mut Holder<Q>,
 ) -> Result<(), RunStop>
     requires built { built.unbuilt_line statements.now ≡ None }
+    requires read { IsRead statements.now }
     requires start { env_of env.old ≡ start }
+    requires empty { env.old.names ≡ [] }
     requires fresh { h.old ≡ whole }
     ensures ok { OnOk result (Appends (K.held sink.old) (K.held sink.new) (text_of statements.now [])) }
     ensures err { OnErr result (WritesFront (K.held sink.old) (K.held sink.new) (text_of statements.now [])) }
-    ensures allowed { OnOk result ((env_of env.new).allowed ≡ bound statements.now []) }
+    ensures allowed { OnOk result (env.new.allowed ≡ bound statements.now []) }
+    ensures most { h.new.copied ≤ bound statements.now [] }
+    ensures least { OnOk result (least statements.now [] ≤ h.new.copied) }
+    ensures bare { IsBareScript statements.now → OnOk result (IsBare is_text env.new.names × (h.new.spare + length env.new.names ≡ stock_units)) }
     ensures fault { IsErrOf result RunStop.WriteFault → Rose (K.faults sink.old) (K.faults sink.new) }
     ensures later { K.faults sink.old ≤ K.faults sink.new }
 {
@@ -126,9 +137,13 @@ fn run_script<Q: Stock, K: Sink>(
     h: &mut Holder<Q>,
 ) -> Result<(), RunStop>
     requires built { built.unbuilt_line statements.now ≡ None }
+    requires read { IsRead statements.now }
     requires fresh { h.old ≡ whole }
     ensures ok { OnOk result (Appends (K.held sink.old) (K.held sink.new) (whole_text census h.new.copied statements.now)) }
     ensures err { OnErr result (WritesFront (K.held sink.old) (K.held sink.new) (whole_text census h.new.copied statements.now)) }
+    ensures most { h.new.copied ≤ bound statements.now [] }
+    ensures least { OnOk result (least statements.now [] ≤ h.new.copied) }
+    ensures bare { IsBareScript statements.now → OnOk result (h.new.spare ≡ stock_units) }
     ensures fault { IsErrOf result RunStop.WriteFault → Rose (K.faults sink.old) (K.faults sink.new) }
     ensures later { K.faults sink.old ≤ K.faults sink.new }
 {
@@ -160,6 +175,7 @@ fn run_built<Q: Stock, K: Sink>(
     sink: &mut K,
     h: &mut Holder<Q>,
 ) -> Status
+    requires read { IsRead statements.now }
     requires fresh { h.old ≡ whole }
     ensures answer { StatementsAnswered (K.held sink.old) (K.held sink.new) (Rose (K.faults sink.old) (K.faults sink.new)) census statements.now h.new result }
     ensures write_fault { result ≡ Status.WriteFault → Rose (K.faults sink.old) (K.faults sink.new) }
