@@ -1,5 +1,3 @@
-use Rattle.std.proofs.Common.{arith}
-use Rattle.std.proofs.lemmas.Grind.{common_steps}
 use Rattle.cow_kinds.proofs.Equals.{tells-same}
 use Rattle.cow_kinds.proofs.array.equal.Goals as goal
 

@@ -5,5 +5,5 @@ use Rattle.cow_kinds.proofs.array.remove.Goals as goal
 
 pub returns-in-Ok-clause-paid : goal.returns-in-Ok-clause-paid
 returns-in-Ok-clause-paid g c =
-    let one = unit-of g.T.Item.is_counted c.args.a.now.value c.in-Some.place (g.T.Item.plain c.in-Ok.old) c.in-Ok.ensures.old in
+    let one = unit-of g.T.Item.is_counted c.args.a.now.value _ (g.T.Item.plain c.in-Ok.old) c.in-Ok.ensures.old in
     grind (arith, common_steps, one)
