@@ -1,4 +1,5 @@
-use Rattle.std.proofs.Common.{◌≡◌, refl, ap, arith}
+use Rattle.std.proofs.Common.{◌≡◌, not, refl, ap, arith}
+use Rattle.std.specs.Prelude.{IsOk}
 use Rattle.cow_model.specs.Changes.{change_of}
 use Rattle.cow_model.specs.Atoms.{counted_in}
 use Rattle.cow_model.specs.Operation.{fitting}
@@ -51,9 +52,10 @@ returns-clause-pays g c =
     let r = c.change-result in
     let a = fitting (change_of statement (plain_of v)) in
     let e : Held = record { name = c.self.inside.name; seen = seen v; flag = c.self.inside.alone } in
+    let e' : Held = record { name = e.name; seen = seen r.new.self; flag = not c.same.result } in
     let free = rw (c.copy-before.ensures.same, c.copy-before.ensures.spent) at r.ensures.free in
     let bare = rw c.copy-before.ensures.same at r.ensures.bare in
     let costs = rw (c.copy-before.ensures.same, c.copy-before.ensures.spent) at r.ensures.paid in
     let ended = rw c.copy-before.ensures.copy at c.end.ensures.moved in
-    rw (← c.self.view_is) (pays-literals p (own_cost (entry_of e)) (literals statement) a _ e _ c.args.h.now c.end.new.h
-      (pays-compared p (counted_in p statement) (literals statement) a e _ _ c.args.h.now r.new.h c.end.new.h c.if-self.false c.self.invariant.small c.requires.few (omega (arith, c.requires.spare)) free bare costs ended c.end.ensures.never_less))
+    rw (← c.self.view_is) (pays-literals p (own_cost (entry_of e)) (literals statement) a _ e e' c.args.h.now c.end.new.h
+      (pays-compared p (counted_in p statement) (literals statement) a e e' (IsOk r.result) c.args.h.now r.new.h c.end.new.h c.if-self.false c.self.invariant.small c.requires.few (omega (arith, c.requires.spare)) free bare costs ended c.end.ensures.never_less))
