@@ -1,5 +1,5 @@
 // What the interpreter asks of a value.
-ghost use Rattle.std.specs.Prelude.{◌≡◌, ◌^◌, ◌≤◌, ◌⊎◌, ◌++◌, true, false, length, is_some, IfOk, OnOk, OnErr};
+ghost use Rattle.std.specs.Prelude.{◌≡◌, ◌^◌, ◌≤◌, ◌⊎◌, ◌++◌, true, false, length, is_some, IsOk, IfOk, OnOk, OnErr};
 ghost use Rattle.cow_model.specs.Changes.{change_by_of};
 ghost use Rattle.cow_model.specs.Operation as operation;
 ghost use Rattle.cow_model.specs.Operation.{fitting};
@@ -7,8 +7,8 @@ ghost use Rattle.cow_model.specs.Plain as plain;
 ghost use Rattle.cow_model.specs.declared.statement.Statement.{out-Statement};
 ghost use Rattle.cow_model.specs.declared.value.Plain.TheVariants as kinds;
 ghost use Rattle.cow_kinds.specs.Seen as kind;
-ghost use Rattle.cow_kinds.specs.Values.{plain_of, is_alone};
-ghost use Rattle.cow_kinds.specs.Answers.{verdict, value_after, reply_of};
+ghost use Rattle.cow_kinds.specs.Values.{seen, plain_of, is_alone};
+ghost use Rattle.cow_kinds.specs.Answers.{verdict, is_refused, value_after, reply_of};
 ghost use Rattle.cow_eval.specs.Entries.{refusal_or_full, refusal_in};
 ghost use Rattle.cow_eval.specs.Entries as entries;
 
@@ -118,6 +118,9 @@ pub fn pop<T: Element<Q>, Q: Stock>(
     ensures refused { OnErr result ((plain_of value.new ≡ plain_of value.old) × (text.new.items ≡ text.old.items)) }
     ensures small { plain.count (plain_of value.new) ≤ plain.max_count }
     ensures kept { is_alone value.old ≡ true → is_alone value.new ≡ true }
+    ensures free { is_refused (operation.pop side (plain_of value.old)) ≡ true → IsOk result × (h.new ≡ h.old) }
+    ensures bare { kind.units T.is_counted (seen value.old) ≡ 0 → kind.units T.is_counted (seen value.new) ≡ 0 }
+    ensures paid { kind.PopCosts T.is_counted (seen value.old) h.old h.new }
     ensures changed { entries.is_front side (plain_of value.old) ≡ false → (plain_of value.new ≡ plain_of value.old) ⊎ (is_alone value.new ≡ true) }
 {
     value.pop(side, text, h)
