@@ -22,7 +22,7 @@ use Rattle.cow_eval.specs.Entries.{entry_after, ChangedBy}
 use Rattle.cow_eval.proofs.Places.{there}
 use Rattle.cow_eval.proofs.Steps.{Did, changed, kept}
 
-set-seam : (xs ys : List Held) (y : Held) → set (xs ++ ys) (length xs) y ≡ xs ++ set ys 0 y
+pub set-seam : (xs ys : List Held) (y : Held) → set (xs ++ ys) (length xs) y ≡ xs ++ set ys 0 y
 set-seam [] ys y = refl
 set-seam (x ∷ xs) ys y = ap (λ l. x ∷ l) (set-seam xs ys y)
 
@@ -30,10 +30,10 @@ get-seam : (xs ys : List Held) (d : Held) → get_or (xs ++ ys) (length xs) d �
 get-seam [] ys d = refl
 get-seam (x ∷ xs) ys d = get-seam xs ys d
 
-seam-read : (xs ys before : List Held) (n : ℕ) (d : Held) → before ≡ xs ++ ys → length xs ≡ n → d ≡ get_or ys 0 d → d ≡ get_or before n d
+pub seam-read : (xs ys before : List Held) (n : ℕ) (d : Held) → before ≡ xs ++ ys → length xs ≡ n → d ≡ get_or ys 0 d → d ≡ get_or before n d
 seam-read xs ys before n d whole len is = is ∙ (sym (get-seam xs ys d) ∙ (ap (λ k. get_or (xs ++ ys) k d) len ∙ ap (λ l. get_or l n d) (sym whole)))
 
-front-read : (xs ys before : List Held) (n : ℕ) (d : Held) → before ≡ xs ++ ys → n < length xs → d ≡ get_or xs n d → d ≡ get_or before n d
+pub front-read : (xs ys before : List Held) (n : ℕ) (d : Held) → before ≡ xs ++ ys → n < length xs → d ≡ get_or xs n d → d ≡ get_or before n d
 front-read xs ys before n d whole h is = is ∙ (sym (get_or-append xs ys d n h) ∙ ap (λ l. get_or l n d) (sym whole))
 
 -- an entry in the front part changed by the first one of the back part

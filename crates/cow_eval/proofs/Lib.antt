@@ -3,6 +3,7 @@ pub mod Bares
 pub mod FirstLine
 pub mod Flags
 pub mod Growth
+pub mod PaysBy
 pub mod Places
 pub mod Results
 pub mod Steps
