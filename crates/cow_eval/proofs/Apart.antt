@@ -75,7 +75,7 @@ by-earlier run at by before xs ys e e' f told whole len h is is' answer entry si
 }
 
 -- what two reads of one place give looks the same
-same-entry : (names : List Entry) (name : Text) (x y : Held) → env.entry_of name names ≡ Some (entry_of x) → env.entry_of name names ≡ Some (entry_of y) → entry_of x ≡ entry_of y
+pub same-entry : (names : List Entry) (name : Text) (x y : Held) → env.entry_of name names ≡ Some (entry_of x) → env.entry_of name names ≡ Some (entry_of y) → entry_of x ≡ entry_of y
 same-entry names name x y one two =
     let both : Some (entry_of x) ≡ Some (entry_of y) = sym one ∙ two in
     cc
