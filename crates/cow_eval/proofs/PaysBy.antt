@@ -20,7 +20,7 @@ use Rattle.cow_kinds.specs.Answers.{verdict, is_refused}
 use Rattle.cow_kinds.specs.Seen.{units}
 use Rattle.cow_eval.specs.Envs.{Held, Envs, entry_of, env_of, IsBare, Balances}
 use Rattle.cow_eval.specs.Entries.{allowed_for, ChangedBy, Pays, Paid, PaysBy}
-use Rattle.cow_eval.proofs.Apart.{set-seam, seam-read, front-read, same-entry, whole}
+use Rattle.cow_eval.proofs.Apart.{set-seam, seam-read, front-read, one-entry, whole}
 use Rattle.cow_eval.proofs.Bares.{bare-set, bare-at}
 use Rattle.cow_eval.proofs.Places.{there}
 
@@ -57,10 +57,12 @@ module _ (p : Literal → Bool) (run : Plain → Plain → Answer) (at by : ℕ)
     pays = pays;
   }
 
+-- no more is allowed than asked for
 allowed-most : (n : ℕ) (a : Answer) → allowed_for n a ≤ n
 allowed-most n (Ok done) = omega arith
 allowed-most n (Err why) = omega arith
 
+-- and nothing where the statement is refused
 allowed-none : (n : ℕ) (a : Answer) → is_refused a ≡ true → allowed_for n a ≡ 0
 allowed-none n (Ok done) refused = cc
 allowed-none n (Err why) refused = refl
@@ -103,6 +105,7 @@ module _ (p : Literal → Bool) (n : ℕ) (a : Answer) (bare_too : Type 0) (e e'
       let paid = pays.bare too (bare-at p names at e within is bare) in
       record { bare = bare-set p names at e' bare paid.0; sum = omega (arith, paid.1, length-set names at e') }
 
+-- what isn't refused allows its cost
 becomes-allowed : (before : Environment) (name : Text) (n : ℕ) (alone : Plain → Bool) (a : Answer) → is_refused a ≡ false → (becomes before name n alone a).env.allowed ≡ before.allowed + n
 becomes-allowed before name n alone (Ok done) is = refl
 becomes-allowed before name n alone (Err why) is = cc
@@ -119,6 +122,7 @@ module _ (before : Envs) (name other : Text) (at by : ℕ) (x y : Held) (place :
       ∙ (ap (λ o. (with_found (env_of before) o (λ e. becomes (env_of before) name (cost e) (alone e) (fitting (run e.value y.seen.value)))).env.allowed) (there name before.names at x place is).read
       ∙ becomes-allowed (env_of before) name (cost (entry_of x)) (alone (entry_of x)) (fitting (run x.seen.value y.seen.value)) done)
 
+-- the place of a name is within the names
 inside : (name : Text) (names : List Held) (at : ℕ) (e : Held) → env.place_of name (map entry_of names) ≡ Some at → e ≡ get_or names at e → at < length names
 inside name names at e place is = omega (arith, (there name names at e place is).within, length-map names entry_of)
 
@@ -128,29 +132,33 @@ module _ (p : Literal → Bool) (before : Envs) (name : Text) (at : ℕ) (e e' :
   pub itself-bare : IsBare p before.names → Balances p 0 before.names (set before.names at e') h h'
   itself-bare bare = balanced p n a ⊤ e e' h h' pays before.names at (inside name before.names at e place is) is _ bare
 
--- values that are read twice tell the same refusal
 module _ (before : Envs) (name other : Text) (at by : ℕ) (x y : Held) (place : env.place_of name (map entry_of before.names) ≡ Some at) (is : x ≡ get_or before.names at x)
     (place' : env.place_of other (map entry_of before.names) ≡ Some by) (is' : y ≡ get_or before.names by y)
     (run : Plain → Plain → Answer) (names : List Held) (told : Result ⊤ Refusal) (d : ChangedBy (λ v w. fitting (run v w)) at by before.names names told) where
+  -- a change by another that is refused is refused by the values that its cost was read from
   pub changed-refused : (why : Refusal) → Err why ≡ told → is_refused (fitting (run x.seen.value y.seen.value)) ≡ true
   changed-refused why err =
-      let old : entry_of d.old ≡ entry_of x = same-entry (map entry_of before.names) name d.old x (there name before.names at d.old place d.old_is).read (there name before.names at x place is).read in
-      let found : entry_of d.other ≡ entry_of y = same-entry (map entry_of before.names) other d.other y (there other before.names by d.other place' d.other_is).read (there other before.names by y place' is').read in
+      let old = one-entry before.names name at d.old x place d.old_is is in
+      let found = one-entry before.names other by d.other y place' d.other_is is' in
       let answer = ap (λ (e : Entry). fitting (run e.value d.other.seen.value)) old ∙ ap (λ (e : Entry). fitting (run x.seen.value e.value)) found in
       ap is_refused (sym answer) ∙ refused-by (fitting (run d.old.seen.value d.other.seen.value)) why (err ∙ d.answer)
 
 module _ (p : Literal → Bool) (before : Envs) (name other : Text) (at by : ℕ) (x y : Held) (place : env.place_of name (map entry_of before.names) ≡ Some at) (is : x ≡ get_or before.names at x)
     (place' : env.place_of other (map entry_of before.names) ≡ Some by) (is' : y ≡ get_or before.names by y)
     (run : Plain → Plain → Answer) (names : List Held) (is_told : Type 0) (h h' : Purse) (d : PaysBy p (λ v w. fitting (run v w)) at by before.names names is_told h h') where
+  -- the change reads the entry that its cost was read from
   old-is : entry_of d.old ≡ entry_of x
-  old-is = same-entry (map entry_of before.names) name d.old x (there name before.names at d.old place d.old_is).read (there name before.names at x place is).read
+  old-is = one-entry before.names name at d.old x place d.old_is is
 
+  -- and the other one's
   other-is : entry_of d.other ≡ entry_of y
-  other-is = same-entry (map entry_of before.names) other d.other y (there other before.names by d.other place' d.other_is).read (there other before.names by y place' is').read
+  other-is = one-entry before.names other by d.other y place' d.other_is is'
 
+  -- so it gives that answer
   answer-is : fitting (run d.old.seen.value d.other.seen.value) ≡ fitting (run x.seen.value y.seen.value)
   answer-is = ap (λ (e : Entry). fitting (run e.value d.other.seen.value)) old-is ∙ ap (λ (e : Entry). fitting (run x.seen.value e.value)) other-is
 
+  -- and has that cost
   costs : own_cost (entry_of d.old) + size d.other.seen.value ≡ own_cost (entry_of x) + size y.seen.value
   costs = ap (λ e. own_cost e + size d.other.seen.value) old-is ∙ ap (λ (e : Entry). own_cost (entry_of x) + size e.value) other-is
 
