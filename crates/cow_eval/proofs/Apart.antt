@@ -22,18 +22,22 @@ use Rattle.cow_eval.specs.Entries.{entry_after, ChangedBy}
 use Rattle.cow_eval.proofs.Places.{there}
 use Rattle.cow_eval.proofs.Steps.{Did, changed, kept}
 
-set-seam : (xs ys : List Held) (y : Held) → set (xs ++ ys) (length xs) y ≡ xs ++ set ys 0 y
+-- a list at the seam of its parts: what is put there stands first in the back part
+pub set-seam : (xs ys : List Held) (y : Held) → set (xs ++ ys) (length xs) y ≡ xs ++ set ys 0 y
 set-seam [] ys y = refl
 set-seam (x ∷ xs) ys y = ap (λ l. x ∷ l) (set-seam xs ys y)
 
+-- and what is read there comes from it
 get-seam : (xs ys : List Held) (d : Held) → get_or (xs ++ ys) (length xs) d ≡ get_or ys 0 d
 get-seam [] ys d = refl
 get-seam (x ∷ xs) ys d = get-seam xs ys d
 
-seam-read : (xs ys before : List Held) (n : ℕ) (d : Held) → before ≡ xs ++ ys → length xs ≡ n → d ≡ get_or ys 0 d → d ≡ get_or before n d
+-- an entry that was read at the seam
+pub seam-read : (xs ys before : List Held) (n : ℕ) (d : Held) → before ≡ xs ++ ys → length xs ≡ n → d ≡ get_or ys 0 d → d ≡ get_or before n d
 seam-read xs ys before n d whole len is = is ∙ (sym (get-seam xs ys d) ∙ (ap (λ k. get_or (xs ++ ys) k d) len ∙ ap (λ l. get_or l n d) (sym whole)))
 
-front-read : (xs ys before : List Held) (n : ℕ) (d : Held) → before ≡ xs ++ ys → n < length xs → d ≡ get_or xs n d → d ≡ get_or before n d
+-- an entry that was read in the front part
+pub front-read : (xs ys before : List Held) (n : ℕ) (d : Held) → before ≡ xs ++ ys → n < length xs → d ≡ get_or xs n d → d ≡ get_or before n d
 front-read xs ys before n d whole h is = is ∙ (sym (get_or-append xs ys d n h) ∙ ap (λ l. get_or l n d) (sym whole))
 
 -- an entry in the front part changed by the first one of the back part
@@ -79,6 +83,10 @@ same-entry : (names : List Entry) (name : Text) (x y : Held) → env.entry_of na
 same-entry names name x y one two =
     let both : Some (entry_of x) ≡ Some (entry_of y) = sym one ∙ two in
     cc
+
+-- two reads of a name's place give one entry
+pub one-entry : (names : List Held) (name : Text) (at : ℕ) (x y : Held) → env.place_of name (map entry_of names) ≡ Some at → x ≡ get_or names at x → y ≡ get_or names at y → entry_of x ≡ entry_of y
+one-entry names name at x y place is is' = same-entry (map entry_of names) name x y (there name names at x place is).read (there name names at y place is').read
 
 -- two names at one place are one name
 pub apart : (names : List Held) (name other : Text) (at by : ℕ) (x y : Held) →
@@ -130,8 +138,8 @@ module _ (before : Envs) (name other : Text) (at by : ℕ) (x y : Held) (place :
     (run : Plain → Plain → Answer) (names : List Held) (told : Result ⊤ Refusal) (d : ChangedBy (λ v w. fitting (run v w)) at by before.names names told) where
   cost-is : both_cost (entry_of d.old) + size d.other.seen.value ≡ both_cost (entry_of x) + size y.seen.value
   cost-is =
-      let old : entry_of d.old ≡ entry_of x = same-entry (map entry_of before.names) name d.old x (there name before.names at d.old place d.old_is).read (there name before.names at x place is).read in
-      let found : entry_of d.other ≡ entry_of y = same-entry (map entry_of before.names) other d.other y (there other before.names by d.other place' d.other_is).read (there other before.names by y place' is').read in
+      let old = one-entry before.names name at d.old x place d.old_is is in
+      let found = one-entry before.names other by d.other y place' d.other_is is' in
       ap (λ e. both_cost e + size d.other.seen.value) old ∙ ap (λ (e : Entry). both_cost (entry_of x) + size e.value) found
 
   pub other-done : Ok _ ≡ told →

@@ -1,8 +1,10 @@
 pub mod Apart
+pub mod Bares
 pub mod FirstLine
 pub mod Flags
 pub mod Growth
 pub mod Pays
+pub mod PaysBy
 pub mod Places
 pub mod Results
 pub mod Steps

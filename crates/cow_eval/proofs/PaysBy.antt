@@ -1,0 +1,181 @@
+-- What a change of one name's value by another's costs, or by itself.
+use Rattle.std.proofs.Common.{◌≡◌, if◌then◌else◌, ℕ, ◌+◌, ◌<◌, ◌≤◌, ◌++◌, Bool, true, false, not, ◌&&◌, List, length, map, get_or, set, Some, Ok, Err, Result, refl, ap, sym, ◌∙◌, arith, subst}
+use Rattle.std.specs.Prelude.{⊤, OnErr}
+use Rattle.std.specs.Str.{bytes_eq}
+use Rattle.std.proofs.lemmas.List.{set-append_left, length-set, length-map}
+use Rattle.cow_model.specs.Lexis.{Text}
+use Rattle.cow_model.specs.Env as env
+use Rattle.cow_model.specs.Operation.{Answer, fitting}
+use Rattle.cow_model.specs.Plain.{size}
+use Rattle.cow_model.specs.Purse.{Purse}
+use Rattle.cow_model.specs.Sharing.{own_cost, both_cost, alone_after}
+use Rattle.cow_model.specs.Step.{becomes, with_entry, with_found, change_by}
+use Rattle.cow_model.specs.declared.outcome.Entry.{Entry}
+use Rattle.cow_model.specs.declared.outcome.Environment.{Environment}
+use Rattle.cow_model.specs.declared.outcome.Outcome.{Outcome}
+use Rattle.cow_model.specs.declared.plain.Literal.{Literal}
+use Rattle.cow_model.specs.declared.refusal.Refusal.{Refusal}
+use Rattle.cow_model.specs.declared.value.Plain.{Plain}
+use Rattle.cow_kinds.specs.Answers.{verdict, is_refused}
+use Rattle.cow_kinds.specs.Seen.{units}
+use Rattle.cow_eval.specs.Envs.{Held, Envs, entry_of, env_of, IsBare, Balances}
+use Rattle.cow_eval.specs.Entries.{allowed_for, ChangedBy, Pays, Paid, PaysBy}
+use Rattle.cow_eval.proofs.Apart.{set-seam, seam-read, front-read, one-entry, whole}
+use Rattle.cow_eval.proofs.Bares.{bare-set, bare-at}
+use Rattle.cow_eval.proofs.Places.{there}
+
+module _ (p : Literal → Bool) (run : Plain → Plain → Answer) (at by : ℕ) (before xs ys : List Held) (e e' f : Held) (is_told : Type 0) (h h' : Purse) where
+  -- an entry in the front part pays for the first one of the back part
+  pub pays-later : before ≡ xs ++ ys → length xs ≡ by → at < length xs → e ≡ get_or xs at e → f ≡ get_or ys 0 f →
+      (is_refused (run e.seen.value f.seen.value) ≡ true → is_told) →
+      Pays p (allowed_for (own_cost (entry_of e) + size f.seen.value) (run e.seen.value f.seen.value)) (units p f.seen ≡ 0) e e' h h' →
+      PaysBy p run at by before (set xs at e' ++ ys) is_told h h'
+  pays-later whole len within is is' told pays = record {
+    old = e;
+    other = f;
+    new = e';
+    old_is = front-read xs ys before at e whole within is;
+    other_is = seam-read xs ys before by f whole len is';
+    names = sym (set-append_left xs ys at e' within) ∙ ap (λ l. set l at e') (sym whole);
+    told = told;
+    pays = pays;
+  }
+
+  -- the first entry of the back part pays for one of the front part
+  pub pays-earlier : before ≡ xs ++ ys → length xs ≡ at → by < length xs → e ≡ get_or ys 0 e → f ≡ get_or xs by f →
+      (is_refused (run e.seen.value f.seen.value) ≡ true → is_told) →
+      Pays p (allowed_for (own_cost (entry_of e) + size f.seen.value) (run e.seen.value f.seen.value)) (units p f.seen ≡ 0) e e' h h' →
+      PaysBy p run at by before (xs ++ set ys 0 e') is_told h h'
+  pays-earlier whole len within is is' told pays = record {
+    old = e;
+    other = f;
+    new = e';
+    old_is = seam-read xs ys before at e whole len is;
+    other_is = front-read xs ys before by f whole within is';
+    names = sym (set-seam xs ys e') ∙ (ap (λ k. set (xs ++ ys) k e') len ∙ ap (λ l. set l at e') (sym whole));
+    told = told;
+    pays = pays;
+  }
+
+-- no more is allowed than asked for
+allowed-most : (n : ℕ) (a : Answer) → allowed_for n a ≤ n
+allowed-most n (Ok done) = omega arith
+allowed-most n (Err why) = omega arith
+
+-- and nothing where the statement is refused
+allowed-none : (n : ℕ) (a : Answer) → is_refused a ≡ true → allowed_for n a ≡ 0
+allowed-none n (Ok done) refused = cc
+allowed-none n (Err why) refused = refl
+
+-- what holds anyway holds after a failure
+pub err-always : {X E : Type 0} (P : Type 0) (r : Result X E) → P → OnErr r P
+err-always P (Ok x) h = _
+err-always P (Err x) h = h
+
+-- a verdict says whether the statement is refused
+pub refused-by : (a : Answer) (why : Refusal) → Err why ≡ verdict a → is_refused a ≡ true
+refused-by (Ok done) why is = cc
+refused-by (Err other) why is = refl
+
+-- a failure isn't Ok
+pub no-told : false ≡ true → ⊥
+no-told told = cc
+
+-- what isn't told isn't refused
+pub unrefused : (a : Answer) → (is_refused a ≡ true → ⊥) → is_refused a ≡ false
+unrefused (Ok done) untold = refl
+unrefused (Err why) untold = absurd (untold refl)
+
+module _ (p : Literal → Bool) (n : ℕ) (a : Answer) (bare_too : Type 0) (e e' : Held) (h h' : Purse) (pays : Pays p (allowed_for n a) bare_too e e' h h') where
+  -- what a change costs is covered by what is allowed for it
+  pub paid-within : (before after : Envs) → after.allowed ≡ before.allowed + n → Paid 0 before after h h'
+  paid-within before after is =
+      let most = allowed-most n a in
+      record { copied = record { copied = omega (arith, is, most, pays.copied.copied); kept = pays.copied.kept }; falls = pays.falls }
+
+  -- a refused one makes no copy
+  pub paid-none : (before after : Envs) → is_refused a ≡ true → after.allowed ≡ before.allowed → Paid 0 before after h h'
+  paid-none before after refused is =
+      let none = allowed-none n a refused in
+      record { copied = record { copied = omega (arith, is, none, pays.copied.copied); kept = pays.copied.kept }; falls = pays.falls }
+
+  -- units and names balance
+  pub balanced : (names : List Held) (at : ℕ) → at < length names → e ≡ get_or names at e → bare_too → IsBare p names → Balances p 0 names (set names at e') h h'
+  balanced names at within is too bare =
+      let paid = pays.bare too (bare-at p names at e within is bare) in
+      record { bare = bare-set p names at e' bare paid.0; sum = omega (arith, paid.1, length-set names at e') }
+
+-- what isn't refused allows its cost
+becomes-allowed : (before : Environment) (name : Text) (n : ℕ) (alone : Plain → Bool) (a : Answer) → is_refused a ≡ false → (becomes before name n alone a).env.allowed ≡ before.allowed + n
+becomes-allowed before name n alone (Ok done) is = refl
+becomes-allowed before name n alone (Err why) is = cc
+
+module _ (before : Envs) (name other : Text) (at by : ℕ) (x y : Held) (place : env.place_of name (map entry_of before.names) ≡ Some at) (is : x ≡ get_or before.names at x)
+    (place' : env.place_of other (map entry_of before.names) ≡ Some by) (is' : y ≡ get_or before.names by y) (run : Plain → Plain → Answer) where
+  -- a change that isn't refused allows its cost
+  pub allows : (b : Bool) → bytes_eq name other ≡ b → is_refused (fitting (run x.seen.value y.seen.value)) ≡ false →
+      (change_by (env_of before) name other true run).env.allowed ≡ before.allowed + (both_cost (if b then env.shared (entry_of x) else entry_of x) + size y.seen.value)
+  allows b same done =
+      let cost = λ (e : Entry). both_cost (if b then env.shared e else e) + size y.seen.value in
+      let alone = λ (e : Entry) (v : Plain). not b && alone_after e v in
+      ap (λ o. o.env.allowed) (whole before name other by y place' is' run b same)
+      ∙ (ap (λ o. (with_found (env_of before) o (λ e. becomes (env_of before) name (cost e) (alone e) (fitting (run e.value y.seen.value)))).env.allowed) (there name before.names at x place is).read
+      ∙ becomes-allowed (env_of before) name (cost (entry_of x)) (alone (entry_of x)) (fitting (run x.seen.value y.seen.value)) done)
+
+-- the place of a name is within the names
+inside : (name : Text) (names : List Held) (at : ℕ) (e : Held) → env.place_of name (map entry_of names) ≡ Some at → e ≡ get_or names at e → at < length names
+inside name names at e place is = omega (arith, (there name names at e place is).within, length-map names entry_of)
+
+module _ (p : Literal → Bool) (before : Envs) (name : Text) (at : ℕ) (e e' : Held) (h h' : Purse) (place : env.place_of name (map entry_of before.names) ≡ Some at) (is : e ≡ get_or before.names at e)
+    (n : ℕ) (a : Answer) (pays : Pays p (allowed_for n a) ⊤ e e' h h') where
+  -- units and names balance after a change by itself
+  pub itself-bare : IsBare p before.names → Balances p 0 before.names (set before.names at e') h h'
+  itself-bare bare = balanced p n a ⊤ e e' h h' pays before.names at (inside name before.names at e place is) is _ bare
+
+module _ (before : Envs) (name other : Text) (at by : ℕ) (x y : Held) (place : env.place_of name (map entry_of before.names) ≡ Some at) (is : x ≡ get_or before.names at x)
+    (place' : env.place_of other (map entry_of before.names) ≡ Some by) (is' : y ≡ get_or before.names by y)
+    (run : Plain → Plain → Answer) (names : List Held) (told : Result ⊤ Refusal) (d : ChangedBy (λ v w. fitting (run v w)) at by before.names names told) where
+  -- a change by another that is refused is refused by the values that its cost was read from
+  pub changed-refused : (why : Refusal) → Err why ≡ told → is_refused (fitting (run x.seen.value y.seen.value)) ≡ true
+  changed-refused why err =
+      let old = one-entry before.names name at d.old x place d.old_is is in
+      let found = one-entry before.names other by d.other y place' d.other_is is' in
+      let answer = ap (λ (e : Entry). fitting (run e.value d.other.seen.value)) old ∙ ap (λ (e : Entry). fitting (run x.seen.value e.value)) found in
+      ap is_refused (sym answer) ∙ refused-by (fitting (run d.old.seen.value d.other.seen.value)) why (err ∙ d.answer)
+
+module _ (p : Literal → Bool) (before : Envs) (name other : Text) (at by : ℕ) (x y : Held) (place : env.place_of name (map entry_of before.names) ≡ Some at) (is : x ≡ get_or before.names at x)
+    (place' : env.place_of other (map entry_of before.names) ≡ Some by) (is' : y ≡ get_or before.names by y)
+    (run : Plain → Plain → Answer) (names : List Held) (is_told : Type 0) (h h' : Purse) (d : PaysBy p (λ v w. fitting (run v w)) at by before.names names is_told h h') where
+  -- the change reads the entry that its cost was read from
+  old-is : entry_of d.old ≡ entry_of x
+  old-is = one-entry before.names name at d.old x place d.old_is is
+
+  -- and the other one's
+  other-is : entry_of d.other ≡ entry_of y
+  other-is = one-entry before.names other by d.other y place' d.other_is is'
+
+  -- so it gives that answer
+  answer-is : fitting (run d.old.seen.value d.other.seen.value) ≡ fitting (run x.seen.value y.seen.value)
+  answer-is = ap (λ (e : Entry). fitting (run e.value d.other.seen.value)) old-is ∙ ap (λ (e : Entry). fitting (run x.seen.value e.value)) other-is
+
+  -- and has that cost
+  costs : own_cost (entry_of d.old) + size d.other.seen.value ≡ own_cost (entry_of x) + size y.seen.value
+  costs = ap (λ e. own_cost e + size d.other.seen.value) old-is ∙ ap (λ (e : Entry). own_cost (entry_of x) + size e.value) other-is
+
+  -- a change by another is covered by what is allowed for it
+  pub other-paid : (after : Envs) → after.allowed ≡ before.allowed + (own_cost (entry_of x) + size y.seen.value) → Paid 0 before after h h'
+  other-paid after is = paid-within p (own_cost (entry_of d.old) + size d.other.seen.value) (fitting (run d.old.seen.value d.other.seen.value)) (units p d.other.seen ≡ 0) d.old d.new h h' d.pays before after (omega (arith, is, costs))
+
+  -- a refused one makes no copy
+  pub other-none : (after : Envs) → is_refused (fitting (run x.seen.value y.seen.value)) ≡ true → after.allowed ≡ before.allowed → Paid 0 before after h h'
+  other-none after refused is = paid-none p (own_cost (entry_of d.old) + size d.other.seen.value) (fitting (run d.old.seen.value d.other.seen.value)) (units p d.other.seen ≡ 0) d.old d.new h h' d.pays before after (ap is_refused answer-is ∙ refused) is
+
+  -- units and names balance
+  pub other-bare : IsBare p before.names → Balances p 0 before.names names h h'
+  other-bare bare =
+      let none = bare-at p before.names by d.other (inside other before.names by d.other place' d.other_is) d.other_is bare in
+      rw d.names (balanced p (own_cost (entry_of d.old) + size d.other.seen.value) (fitting (run d.old.seen.value d.other.seen.value)) (units p d.other.seen ≡ 0) d.old d.new h h' d.pays before.names at (inside name before.names at d.old place d.old_is) d.old_is none bare)
+
+  -- where a refusal would be told and none is, its cost is allowed
+  pub other-most : (is_told → ⊥) → bytes_eq name other ≡ false → (change_by (env_of before) name other true run).env.allowed ≡ before.allowed + (both_cost (entry_of x) + size y.seen.value)
+  other-most untold differ = allows before name other at by x y place is place' is' run false differ (unrefused (fitting (run x.seen.value y.seen.value)) (λ refused. untold (d.told (ap is_refused answer-is ∙ refused))))
