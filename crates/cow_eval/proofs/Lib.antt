@@ -1,4 +1,5 @@
 pub mod Apart
+pub mod BareNames
 pub mod FirstLine
 pub mod Flags
 pub mod Growth
