@@ -10,7 +10,7 @@ returns-in-Ok-clause-env g c =
     let found = rw c.deref.ensures.value at c.find.ensures in
     let did = changed (record { names = c.env.inside.names.items; room = c.env.inside.room; allowed = c.env.inside.allowed }) c.args.name.now c.in-Some.at c.index_mut-entry.result.now c.pop.new.self (sym found ∙ c.in-Some.is) c.index_mut-entry.ensures.value
     (pop_cost c.args.side) (alone_after_pop c.args.side) (λ e. pop c.args.side e.value) c.in_ok-pop.ensures.entry (sym c.in-Ok.is ∙ c.in_ok-pop.ensures.answer) in
-    rw (c.in_ok-allowed.ensures.value, c.pop_cost.ensures.cost, ← c.env.view_is) did.env
+    rw (c.in_ok-env-inside.ensures.value, c.pop_cost.ensures.cost, ← c.env.view_is) did.env
 
 pub returns-in-Ok-clause-text : goal.returns-in-Ok-clause-text
 returns-in-Ok-clause-text g c =
