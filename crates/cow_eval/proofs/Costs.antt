@@ -1,5 +1,5 @@
 -- What a change of the value of a name allows and costs.
-use Rattle.std.proofs.Common.{◌≡◌, ⊥, ℕ, ◌+◌, ◌≤◌, Bool, true, List, map, get_or, set, Some, Ok, Err, Result, refl, ap, sym, ◌∙◌, arith}
+use Rattle.std.proofs.Common.{◌≡◌, ℕ, ◌+◌, ◌≤◌, Bool, true, false, List, map, get_or, set, Some, Ok, Err, Result, refl, ap, sym, ◌∙◌, arith}
 use Rattle.std.specs.Prelude.{OnErr}
 use Rattle.cow_model.specs.Env as env
 use Rattle.cow_model.specs.Lexis.{Text}
@@ -27,9 +27,9 @@ allows before name n alone (Ok done) = omega arith
 allows before name n alone (Err why) = omega arith
 
 -- one that isn't refused allows its cost
-allows-all : (before : Environment) (name : Text) (n : ℕ) (alone : Plain → Bool) (a : Answer) → (is_refused a ≡ true → ⊥) → before.allowed + n ≤ (becomes before name n alone a).env.allowed
-allows-all before name n alone (Ok done) no = omega arith
-allows-all before name n alone (Err why) no = absurd (no refl)
+allows-all : (before : Environment) (name : Text) (n : ℕ) (alone : Plain → Bool) (a : Answer) → (is_refused a ≡ true → false ≡ true) → before.allowed + n ≤ (becomes before name n alone a).env.allowed
+allows-all before name n alone (Ok done) told = omega arith
+allows-all before name n alone (Err why) told = let wrong = told refl in cc
 
 -- no more than the cost is allowed
 at-most : (n : ℕ) (a : Answer) → allowed_for n a ≤ n
@@ -44,9 +44,9 @@ none-for n (Err other) why is = refl
 module _ (before : Envs) (name : Text) (at : ℕ) (e : Held) (place : env.place_of name (map entry_of before.names) ≡ Some at) (is : e ≡ get_or before.names at e)
     (n : Entry → ℕ) (alone : Entry → Plain → Bool) (run : Entry → Answer) where
   -- where memory ran out in a change that isn't refused, its cost was allowed
-  pub most-tried : (allowed : ℕ) → allowed ≡ before.allowed + n (entry_of e) → (is_refused (run (entry_of e)) ≡ true → ⊥) →
+  pub most-tried : (allowed : ℕ) → allowed ≡ before.allowed + n (entry_of e) → (is_refused (run (entry_of e)) ≡ true → false ≡ true) →
       allowed ≤ (with_entry (env_of before) name (λ x. becomes (env_of before) name (n x) (alone x) (run x))).env.allowed
-  most-tried allowed sum no = rw ((there name before.names at e place is).read, sum) (allows-all (env_of before) name (n (entry_of e)) (alone (entry_of e)) (run (entry_of e)) no)
+  most-tried allowed sum told = rw ((there name before.names at e place is).read, sum) (allows-all (env_of before) name (n (entry_of e)) (alone (entry_of e)) (run (entry_of e)) told)
 
   -- nothing was allowed
   pub most-kept : before.allowed ≤ (with_entry (env_of before) name (λ x. becomes (env_of before) name (n x) (alone x) (run x))).env.allowed
