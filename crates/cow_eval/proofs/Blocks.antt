@@ -2,8 +2,10 @@
 use Rattle.std.proofs.Common.{◌≡◌, ℕ, ◌+◌, ◌-◌, ◌^◌, ◌≤◌, ◌<◌, ◌++◌, Bool, List, [], ◌∷◌, length, drop, get_or, ap, sym, ◌∙◌, arith, subst}
 use Rattle.std.specs.Prelude.{min}
 use Rattle.std.specs.List.{All}
-use Rattle.std.proofs.lemmas.List.{at_drop_more}
+use Rattle.std.specs.Io.{StartsWith}
+use Rattle.std.proofs.lemmas.List.{at_drop_more, length-take, take-append-le}
 use Rattle.std.proofs.lemmas.List.Elements.{All-get_or}
+use Rattle.cow_model.specs.Lexis.{Text}
 use Rattle.cow_model.specs.Purse.{Purse, RisesWithin}
 use Rattle.cow_model.specs.Run.{run_layer, run_one, env_after, text_from, least_layer, least_from}
 use Rattle.cow_model.specs.declared.outcome.Environment.{Environment}
@@ -41,6 +43,14 @@ balances-on p a b c h h' h'' one two =
     let first = one.sum in
     let second = two.sum in
     record { bare = two.bare; sum = omega (arith, first, second) }
+
+-- a text that grows still starts as it did
+pub starts-on : (old new more : Text) → StartsWith new old → StartsWith (new ++ more) old
+starts-on old new more kept =
+    let cut = length-take (length old) new in
+    let same = ap length kept in
+    let shorter : length old ≤ length new = omega (arith, cut, same) in
+    take-append-le (length old) new more shorter ∙ kept
 
 -- the least copies of a statement and of those to come
 pub least-on : (n rest copied copied' : ℕ) → min (copied + n) (2 ^ 64 - 1) ≤ copied' → min (copied + (n + rest)) (2 ^ 64 - 1) ≤ min (copied' + rest) (2 ^ 64 - 1)
