@@ -1,5 +1,8 @@
 pub mod Apart
+pub mod BareNames
 pub mod Bares
+pub mod Blocks
+pub mod Costs
 pub mod FirstLine
 pub mod Flags
 pub mod Growth

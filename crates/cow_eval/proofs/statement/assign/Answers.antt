@@ -1,7 +1,10 @@
-use Rattle.std.proofs.Common.{◌++◌, refl, ap, sym, ◌∙◌}
+use Rattle.std.proofs.Common.{◌≡◌, ◌≤◌, ◌++◌, arith, refl, ap, sym, ◌∙◌}
 use Rattle.std.proofs.lemmas.List.{append-nil}
-use Rattle.cow_kinds.specs.Values.{plain_of}
+use Rattle.cow_kinds.specs.Seen.{units}
+use Rattle.cow_kinds.specs.Values.{seen, plain_of}
 use Rattle.cow_eval.specs.Envs.{entry_of}
+use Rattle.cow_eval.proofs.BareNames.{found-bare, shared-bare}
+use Rattle.cow_eval.proofs.Bares.{bare-set}
 use Rattle.cow_eval.proofs.Results.{always, on-ok}
 use Rattle.cow_eval.proofs.Places.{still-there}
 use Rattle.cow_eval.proofs.Steps.{assigned}
@@ -29,3 +32,16 @@ returns-clause-there g c = λ one two.
     let still = still-there c.args.other.now c.env.inside.names.items c.in-Some.from c.index_mut.result.now (sym found ∙ c.in-Some.is) c.index_mut.ensures.value c.args.name.now c.copy-value.new.self (ap (λ e. e.name) c.copy-value.ensures.entry) in
     let first = rw (← c.env.view_is) at one in
     c.give.ensures.there (rw still first)
+
+pub returns-clause-bare : goal.returns-clause-bare
+returns-clause-bare g c = λ bare.
+    let found = rw c.deref.ensures.value at c.find.ensures in
+    let names = rw (← c.env.view_is) at bare in
+    let place = sym found ∙ c.in-Some.is in
+    let one : 1 ≤ c.args.h.now.spare = omega (arith, c.requires.spare) in
+    let seen-new = ap (λ e. e.seen) c.copy-value.ensures.entry in
+    let old = found-bare g.T.Item.is_counted c.args.other.now c.env.inside.names.items c.in-Some.from c.index_mut.result.now place c.index_mut.ensures.value names in
+    let new : units g.T.Item.is_counted c.copy-value.new.self.seen ≡ 0 = rw seen-new old in
+    let copy : units g.T.Item.is_counted (seen c.copy-value.result) ≡ 0 = rw c.copy-value.ensures.copy old in
+    let given = c.give.ensures.bare (bare-set g.T.Item.is_counted c.env.inside.names.items c.in-Some.from c.copy-value.new.self names new) copy in
+    on-ok _ _ c.give.result given (λ done. rw (← c.env.view_is) (shared-bare g.T.Item.is_counted c.args.other.now c.env.inside.names.items c.in-Some.from c.index_mut.result.now place c.index_mut.ensures.value names c.copy-value.new.self c.give.new.self.names c.args.h.now c.give.new.h one (rw (← c.copy-value.ensures.spent) done)))

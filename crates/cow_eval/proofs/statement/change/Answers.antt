@@ -1,8 +1,13 @@
-use Rattle.std.proofs.Common.{◌++◌, refl, ap, sym, ◌∙◌}
+use Rattle.std.proofs.Common.{◌≡◌, ◌+◌, ◌++◌, set, refl, ap, sym, ◌∙◌}
 use Rattle.cow_model.specs.Changes.{change_of}
 use Rattle.cow_model.specs.Operation.{fitting}
-use Rattle.cow_model.specs.Sharing.{own_cost, alone_after}
+use Rattle.cow_model.specs.Sharing.{literals, own_cost, alone_after}
 use Rattle.cow_model.specs.declared.statement.Statement.{out-Statement}
+use Rattle.cow_model.specs.Atoms.{counted_in}
+use Rattle.cow_eval.specs.Entries.{allowed_for}
+use Rattle.cow_eval.specs.Envs.{entry_of}
+use Rattle.cow_eval.proofs.BareNames.{changed-bare}
+use Rattle.cow_eval.proofs.Costs.{always-err, most-tried, most-kept, paid-tried, paid-kept}
 use Rattle.cow_eval.proofs.Results.{always, on-ok, on-err}
 use Rattle.cow_eval.proofs.Steps.{changed, kept, unsaid}
 use Rattle.cow_eval.proofs.statement.change.Goals as goal
@@ -12,7 +17,7 @@ returns-in-Ok-clause-env g c =
     let found = rw c.deref.ensures.value at c.find.ensures in
     let did = changed (record { names = c.env.inside.names.items; room = c.env.inside.room; allowed = c.env.inside.allowed }) c.args.name.now c.in-Some.at c.index_mut-entry.result.now c.change.new.self (sym found ∙ c.in-Some.is) c.index_mut-entry.ensures.value
     own_cost alone_after (λ e. fitting (change_of (out-Statement c.args.statement.now) e.value)) c.in_ok-change.ensures.entry (sym c.in-Ok.is ∙ c.in_ok-change.ensures.answer) in
-    rw (c.in_ok-allowed.ensures.value, c.own_cost.ensures.cost, ← c.env.view_is) did.env
+    rw (c.in_ok-env-inside.ensures.value, c.own_cost.ensures.cost, ← c.env.view_is) did.env
 
 pub returns-in-Ok-clause-text : goal.returns-in-Ok-clause-text
 returns-in-Ok-clause-text g c =
@@ -40,3 +45,39 @@ pub returns-in-Err-clause-err : goal.returns-in-Err-clause-err
 returns-in-Err-clause-err g c =
     let same = unsaid (fitting (change_of (out-Statement c.args.statement.now) c.index_mut-entry.result.now.seen.value)) c.in-Err.why c.args.text.now.items c.change.new.text.items (sym c.in-Err.is ∙ c.in_ok-change.ensures.answer) c.in_ok-change.ensures.reply in
     rw (← same) c.refuse-in-Err.ensures.err
+
+pub returns-in_err-change-clause-most : goal.returns-in_err-change-clause-most
+returns-in_err-change-clause-most g c =
+    let found = rw c.deref.ensures.value at c.find.ensures in
+    let most = most-tried (record { names = c.env.inside.names.items; room = c.env.inside.room; allowed = c.env.inside.allowed }) c.args.name.now c.in-Some.at c.index_mut-entry.result.now (sym found ∙ c.in-Some.is) c.index_mut-entry.ensures.value own_cost alone_after (λ e. fitting (change_of (out-Statement c.args.statement.now) e.value)) c.in_ok-env-inside.field-0 (c.in_ok-env-inside.ensures.value ∙ ap (λ k. c.env.inside.allowed + k) c.own_cost.ensures.cost) c.in_err-change.ensures.told in
+    always-err _ c.from_residual-in_err-change.result (rw (← c.env.view_is) most)
+
+pub returns-in-Err-clause-most : goal.returns-in-Err-clause-most
+returns-in-Err-clause-most g c =
+    let found = rw c.deref.ensures.value at c.find.ensures in
+    let most = most-kept (record { names = c.env.inside.names.items; room = c.env.inside.room; allowed = c.env.inside.allowed }) c.args.name.now c.in-Some.at c.index_mut-entry.result.now (sym found ∙ c.in-Some.is) c.index_mut-entry.ensures.value own_cost alone_after (λ e. fitting (change_of (out-Statement c.args.statement.now) e.value)) in
+    always-err _ c.refuse-in-Err.result (rw (← c.env.view_is) most)
+
+pub returns-in_err-change-clause-paid : goal.returns-in_err-change-clause-paid
+returns-in_err-change-clause-paid g c =
+    rw (← c.env.view_is) (paid-tried g.T.Item.is_counted (literals (out-Statement c.args.statement.now)) (own_cost (entry_of c.index_mut-entry.result.now)) (fitting (change_of (out-Statement c.args.statement.now) c.index_mut-entry.result.now.seen.value)) (counted_in g.T.Item.is_counted (out-Statement c.args.statement.now) ≡ 0) c.index_mut-entry.result.now c.change.new.self c.args.h.now c.change.new.h c.change.ensures.pays (record { names = c.env.inside.names.items; room = c.env.inside.room; allowed = c.env.inside.allowed }) (record { names = set c.env.inside.names.items c.in-Some.at c.change.new.self; room = c.env.inside.room; allowed = c.in_ok-env-inside.field-0 }) (c.in_ok-env-inside.ensures.value ∙ ap (λ k. c.env.inside.allowed + k) c.own_cost.ensures.cost))
+
+pub returns-in-Ok-clause-paid : goal.returns-in-Ok-clause-paid
+returns-in-Ok-clause-paid g c =
+    rw (← c.env.view_is) (paid-tried g.T.Item.is_counted (literals (out-Statement c.args.statement.now)) (own_cost (entry_of c.index_mut-entry.result.now)) (fitting (change_of (out-Statement c.args.statement.now) c.index_mut-entry.result.now.seen.value)) (counted_in g.T.Item.is_counted (out-Statement c.args.statement.now) ≡ 0) c.index_mut-entry.result.now c.change.new.self c.args.h.now c.change.new.h c.change.ensures.pays (record { names = c.env.inside.names.items; room = c.env.inside.room; allowed = c.env.inside.allowed }) (record { names = set c.env.inside.names.items c.in-Some.at c.change.new.self; room = c.env.inside.room; allowed = c.in_ok-env-inside.field-0 }) (c.in_ok-env-inside.ensures.value ∙ ap (λ k. c.env.inside.allowed + k) c.own_cost.ensures.cost))
+
+pub returns-in-Err-clause-paid : goal.returns-in-Err-clause-paid
+returns-in-Err-clause-paid g c =
+    rw (← c.env.view_is) (paid-kept g.T.Item.is_counted (literals (out-Statement c.args.statement.now)) (own_cost (entry_of c.index_mut-entry.result.now)) (fitting (change_of (out-Statement c.args.statement.now) c.index_mut-entry.result.now.seen.value)) (counted_in g.T.Item.is_counted (out-Statement c.args.statement.now) ≡ 0) c.index_mut-entry.result.now c.change.new.self c.args.h.now c.change.new.h c.change.ensures.pays (record { names = c.env.inside.names.items; room = c.env.inside.room; allowed = c.env.inside.allowed }) (record { names = set c.env.inside.names.items c.in-Some.at c.change.new.self; room = c.env.inside.room; allowed = c.env.inside.allowed }) c.in-Err.why (sym c.in-Err.is ∙ c.in_ok-change.ensures.answer) refl)
+
+pub returns-in-Ok-clause-bare : goal.returns-in-Ok-clause-bare
+returns-in-Ok-clause-bare g c = λ bare none.
+    let found = rw c.deref.ensures.value at c.find.ensures in
+    let names = rw (← c.env.view_is) at bare in
+    rw (← c.env.view_is) (changed-bare g.T.Item.is_counted c.args.name.now c.env.inside.names.items c.in-Some.at c.index_mut-entry.result.now (sym found ∙ c.in-Some.is) c.index_mut-entry.ensures.value names c.change.new.self ((literals (out-Statement c.args.statement.now)) + allowed_for (own_cost (entry_of c.index_mut-entry.result.now)) (fitting (change_of (out-Statement c.args.statement.now) c.index_mut-entry.result.now.seen.value))) (counted_in g.T.Item.is_counted (out-Statement c.args.statement.now) ≡ 0) c.args.h.now c.change.new.h c.change.ensures.pays none)
+
+pub returns-in-Err-clause-bare : goal.returns-in-Err-clause-bare
+returns-in-Err-clause-bare g c = λ bare none.
+    let found = rw c.deref.ensures.value at c.find.ensures in
+    let names = rw (← c.env.view_is) at bare in
+    always _ c.refuse-in-Err.result (rw (← c.env.view_is) (changed-bare g.T.Item.is_counted c.args.name.now c.env.inside.names.items c.in-Some.at c.index_mut-entry.result.now (sym found ∙ c.in-Some.is) c.index_mut-entry.ensures.value names c.change.new.self ((literals (out-Statement c.args.statement.now)) + allowed_for (own_cost (entry_of c.index_mut-entry.result.now)) (fitting (change_of (out-Statement c.args.statement.now) c.index_mut-entry.result.now.seen.value))) (counted_in g.T.Item.is_counted (out-Statement c.args.statement.now) ≡ 0) c.args.h.now c.change.new.h c.change.ensures.pays none))

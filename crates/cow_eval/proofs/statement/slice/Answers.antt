@@ -1,11 +1,14 @@
-use Rattle.std.proofs.Common.{refl, ap, sym, ◌∙◌, w64}
+use Rattle.std.proofs.Common.{◌≡◌, ◌≤◌, arith, refl, ap, sym, ◌∙◌, w64}
 use Rattle.std.proofs.lemmas.Int.{to_z-of_z}
 use Rattle.std.proofs.lemmas.List.{append-nil}
 use Rattle.cow_model.specs.declared.outcome.Environment.{Environment}
+use Rattle.cow_kinds.specs.Seen.{units}
 use Rattle.cow_kinds.specs.Values.{plain_of}
 use Rattle.cow_eval.specs.Envs.{entry_of}
 use Rattle.cow_eval.proofs.Places.{same-there}
-use Rattle.cow_eval.proofs.Results.{always}
+use Rattle.cow_eval.proofs.BareNames.{found-bare, shared-bare}
+use Rattle.cow_eval.proofs.Bares.{bare-set}
+use Rattle.cow_eval.proofs.Results.{always, on-ok}
 use Rattle.cow_eval.proofs.Steps.{no-room, uncut, cut}
 use Rattle.cow_eval.proofs.statement.slice.Goals as goal
 
@@ -50,3 +53,15 @@ returns-in-Ok-clause-text g c =
     let said = rw (to_z-of_z w64 c.args.i c.ranges.i, to_z-of_z w64 c.args.j c.ranges.j) at c.in-Ok.ensures.answer in
     let did = cut (record { names = c.env.inside.names.items; room = c.env.inside.room; allowed = c.env.inside.allowed }) c.args.other.now c.in-Some.from c.index_mut.result.now (sym found ∙ c.in-Some.is) c.index_mut.ensures.value c.args.name.now c.args.i c.args.j c.slice.new.self (plain_of c.in-Ok.value) (ap entry_of c.in-Ok.ensures.entry) said room in
     always _ c.give.result (rw (← c.env.view_is, ← did.text) (sym (append-nil c.args.text.now.items)))
+
+pub returns-in-Ok-clause-bare : goal.returns-in-Ok-clause-bare
+returns-in-Ok-clause-bare g c = λ bare.
+    let found = rw c.deref.ensures.value at c.find.ensures in
+    let names = rw (← c.env.view_is) at bare in
+    let place = sym found ∙ c.in-Some.is in
+    let one : 1 ≤ c.args.h.now.spare = omega (arith, c.requires.spare) in
+    let seen-new = ap (λ e. e.seen) c.in-Ok.ensures.entry in
+    let old = found-bare g.T.Item.is_counted c.args.other.now c.env.inside.names.items c.in-Some.from c.index_mut.result.now place c.index_mut.ensures.value names in
+    let new : units g.T.Item.is_counted c.slice.new.self.seen ≡ 0 = rw seen-new old in
+    let given = c.give.ensures.bare (bare-set g.T.Item.is_counted c.env.inside.names.items c.in-Some.from c.slice.new.self names new) (c.in-Ok.ensures.bare old) in
+    on-ok _ _ c.give.result given (λ done. rw (← c.env.view_is) (shared-bare g.T.Item.is_counted c.args.other.now c.env.inside.names.items c.in-Some.from c.index_mut.result.now place c.index_mut.ensures.value names c.slice.new.self c.give.new.self.names c.args.h.now c.give.new.h one (rw (← c.in-Ok.ensures.spent) done)))

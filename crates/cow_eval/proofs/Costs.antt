@@ -1,0 +1,68 @@
+-- What a change of the value of a name allows and costs.
+use Rattle.std.proofs.Common.{◌≡◌, ℕ, ◌+◌, ◌≤◌, Bool, true, false, List, map, get_or, set, Some, Ok, Err, Result, refl, ap, sym, ◌∙◌, arith}
+use Rattle.std.specs.Prelude.{OnErr}
+use Rattle.cow_model.specs.Env as env
+use Rattle.cow_model.specs.Lexis.{Text}
+use Rattle.cow_model.specs.Operation.{Answer}
+use Rattle.cow_model.specs.Purse.{Purse}
+use Rattle.cow_model.specs.Step.{becomes, with_entry}
+use Rattle.cow_model.specs.declared.outcome.Entry.{Entry}
+use Rattle.cow_model.specs.declared.outcome.Environment.{Environment}
+use Rattle.cow_model.specs.declared.plain.Literal.{Literal}
+use Rattle.cow_model.specs.declared.refusal.Refusal.{Refusal}
+use Rattle.cow_model.specs.declared.value.Plain.{Plain}
+use Rattle.cow_kinds.specs.Answers.{verdict, is_refused}
+use Rattle.cow_eval.specs.Entries.{Pays, Paid, allowed_for}
+use Rattle.cow_eval.specs.Envs.{Held, Envs, entry_of, env_of}
+use Rattle.cow_eval.proofs.Places.{there}
+
+-- what holds anyway holds where a call answered Err
+pub always-err : {X E : Type 0} (P : Type 0) (r : Result X E) → P → OnErr r P
+always-err P (Ok x) h = _
+always-err P (Err x) h = h
+
+-- a change never lowers what is allowed
+allows : (before : Environment) (name : Text) (n : ℕ) (alone : Plain → Bool) (a : Answer) → before.allowed ≤ (becomes before name n alone a).env.allowed
+allows before name n alone (Ok done) = omega arith
+allows before name n alone (Err why) = omega arith
+
+-- one that isn't refused allows its cost
+allows-all : (before : Environment) (name : Text) (n : ℕ) (alone : Plain → Bool) (a : Answer) → (is_refused a ≡ true → false ≡ true) → before.allowed + n ≤ (becomes before name n alone a).env.allowed
+allows-all before name n alone (Ok done) told = omega arith
+allows-all before name n alone (Err why) told = let wrong = told refl in cc
+
+-- no more than the cost is allowed
+at-most : (n : ℕ) (a : Answer) → allowed_for n a ≤ n
+at-most n (Ok done) = omega arith
+at-most n (Err why) = omega arith
+
+-- nothing is allowed for a change that is refused
+none-for : (n : ℕ) (a : Answer) (why : Refusal) → Err why ≡ verdict a → allowed_for n a ≡ 0
+none-for n (Ok done) why is = cc
+none-for n (Err other) why is = refl
+
+module _ (before : Envs) (name : Text) (at : ℕ) (e : Held) (place : env.place_of name (map entry_of before.names) ≡ Some at) (is : e ≡ get_or before.names at e)
+    (n : Entry → ℕ) (alone : Entry → Plain → Bool) (run : Entry → Answer) where
+  -- where memory ran out in a change that isn't refused, its cost was allowed
+  pub most-tried : (allowed : ℕ) → allowed ≡ before.allowed + n (entry_of e) → (is_refused (run (entry_of e)) ≡ true → false ≡ true) →
+      allowed ≤ (with_entry (env_of before) name (λ x. becomes (env_of before) name (n x) (alone x) (run x))).env.allowed
+  most-tried allowed sum told = rw ((there name before.names at e place is).read, sum) (allows-all (env_of before) name (n (entry_of e)) (alone (entry_of e)) (run (entry_of e)) told)
+
+  -- nothing was allowed
+  pub most-kept : before.allowed ≤ (with_entry (env_of before) name (λ x. becomes (env_of before) name (n x) (alone x) (run x))).env.allowed
+  most-kept = rw ((there name before.names at e place is).read) (allows (env_of before) name (n (entry_of e)) (alone (entry_of e)) (run (entry_of e)))
+
+module _ (p : Literal → Bool) (literals n : ℕ) (a : Answer) (brings : Type 0) (e e' : Held) (h h' : Purse) (pays : Pays p (literals + allowed_for n a) brings e e' h h') (before after : Envs) where
+  -- a change whose cost was allowed
+  pub paid-tried : after.allowed ≡ before.allowed + n → Paid literals before after h h'
+  paid-tried sum =
+      let most = at-most n a in
+      let rises = pays.copied.copied in
+      record { copied = record { copied = omega (arith, most, rises, sum); kept = pays.copied.kept }; falls = pays.falls }
+
+  -- a change that is refused
+  pub paid-kept : (why : Refusal) → Err why ≡ verdict a → after.allowed ≡ before.allowed → Paid literals before after h h'
+  paid-kept why is same =
+      let none = none-for n a why is in
+      let rises = pays.copied.copied in
+      record { copied = record { copied = omega (arith, none, rises, same); kept = pays.copied.kept }; falls = pays.falls }
