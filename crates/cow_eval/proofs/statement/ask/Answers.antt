@@ -1,4 +1,4 @@
-use Rattle.std.proofs.Common.{refl, ap, sym, ◌∙◌}
+use Rattle.std.proofs.Common.{sym, ◌∙◌}
 use Rattle.cow_model.specs.Changes.{query_of}
 use Rattle.cow_model.specs.declared.statement.Statement.{out-Statement}
 use Rattle.cow_eval.proofs.Steps.{untold, unasked}

@@ -1,4 +1,4 @@
-use Rattle.std.proofs.Common.{map, refl, ap, sym, ◌∙◌}
+use Rattle.std.proofs.Common.{map, ap, sym, ◌∙◌}
 use Rattle.std.proofs.lemmas.List.{append-nil}
 use Rattle.cow_model.specs.declared.outcome.Environment.{Environment}
 use Rattle.cow_eval.specs.Envs.{entry_of}

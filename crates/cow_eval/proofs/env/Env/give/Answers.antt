@@ -1,4 +1,4 @@
-use Rattle.std.proofs.Common.{refl, ap, sym, ◌∙◌}
+use Rattle.std.proofs.Common.{ap, sym, ◌∙◌}
 use Rattle.cow_kinds.specs.Values.{seen}
 use Rattle.cow_model.specs.declared.outcome.Environment.{Environment}
 use Rattle.cow_eval.proofs.Places.{give-there}
