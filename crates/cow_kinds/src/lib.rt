@@ -21,6 +21,7 @@
 
 mod array;
 mod element;
+mod keeps;
 mod lines;
 mod listed;
 mod positions;

@@ -1,0 +1,144 @@
+-- When a change leaves a list the same.
+use Rattle.std.proofs.Common.{◌≡◌, ℕ, suc, ◌+◌, ◌-◌, ◌<◌, ◌≤◌, pos, Bool, true, false, List, [], ◌∷◌, ◌++◌, length, take, drop, reverse, get_or, set, swap, insert, remove, slice_get, Some, Ok, Err, refl, sym, ap, ◌∙◌, arith}
+use Rattle.std.specs.Prelude.{nat_le, if◌then◌else◌}
+use Rattle.std.specs.Bool.{Decides}
+use Rattle.std.proofs.lemmas.Grind.{common_steps}
+use Rattle.std.proofs.lemmas.Option.{get_or_from_slice_get, slice_get-get_or, slice_get_within}
+use Rattle.std.proofs.lemmas.List.{get_or-set_same, set-get_or, get_or-drop, get_or-reverse, length-reverse, length-set, length-append, length_push, take_more_same, take-append-drop, drop-drop, append_assoc, append_cancel_left, append_cancel_right, append-nil, take_all}
+use Rattle.std.proofs.lemmas.List.Edits.{swap_is, length-insert, length-remove}
+use Rattle.cow_model.specs.Operation.{Answer, fitting}
+use Rattle.cow_model.specs.Plain.{count, max_count, same_items}
+use Rattle.cow_model.specs.declared.plain.Literal.{Literal}
+use Rattle.cow_model.specs.declared.plain.Literal.TheVariants as literal
+use Rattle.cow_model.specs.declared.refusal.Refusal.TheVariants.{Full}
+use Rattle.cow_model.specs.declared.value.Plain.{Plain}
+use Rattle.cow_kinds.specs.Answers.{TellsSame}
+use Rattle.cow_kinds.proofs.Equals.{tells-same}
+
+-- lists of different lengths differ
+pub longer : (xs ys : List Literal) → length xs < length ys → false ≡ same_items xs ys
+longer xs ys lt = tells-same false xs ys (λ t. cc, λ e. absurd (omega (arith, lt, rw (← e) at lt)))
+
+-- a list of fewer elements differs
+pub shorter : (xs ys : List Literal) → length ys < length xs → false ≡ same_items xs ys
+shorter xs ys lt = tells-same false xs ys (λ t. cc, λ e. absurd (omega (arith, lt, rw (← e) at lt)))
+
+-- a list is the same as itself
+pub itself : (xs : List Literal) → true ≡ same_items xs xs
+itself xs = tells-same true xs xs (λ t. refl, λ e. refl)
+
+-- an atom set in its own place
+set-own : {A : Type 0} (xs : List A) (i : ℕ) (a : A) → slice_get xs i ≡ Some a → xs ≡ set xs i a
+set-own xs i a e = sym (rw (get_or_from_slice_get xs i a a e) at (set-get_or xs i a))
+
+-- a list that an atom set in it leaves the same
+own-set : {A : Type 0} (xs : List A) (i : ℕ) (a : A) → i < length xs → xs ≡ set xs i a → slice_get xs i ≡ Some a
+own-set xs i a lt e =
+    let there = get_or-set_same xs i a a lt in
+    let here : get_or xs i a ≡ a = rw (← e) at there in
+    rw (slice_get-get_or xs i a lt, here) refl
+
+-- `set` leaves a list the same where the atom is there
+pub set-same : (r : Bool) (xs : List Literal) (i : ℕ) (a : Literal) → i < length xs → Decides r (slice_get xs i ≡ Some a) → r ≡ same_items xs (set xs i a)
+set-same r xs i a lt d = tells-same r xs (set xs i a) (λ t. set-own xs i a (d.0 t), λ e. d.1 (own-set xs i a lt e))
+
+-- one element in two places
+swap-own : {A : Type 0} (d : A) (xs : List A) (i j : ℕ) → i < length xs → j < length xs → get_or xs i d ≡ get_or xs j d → xs ≡ swap xs i j
+swap-own d xs i j lt less e =
+    let w = swap_is xs i j d lt less in
+    let v = rw (← e, set-get_or xs i d, e, set-get_or xs j d) at w in
+    v
+
+-- a list that a swap leaves the same
+own-swap : {A : Type 0} (d : A) (xs : List A) (i j : ℕ) → i < length xs → j < length xs → xs ≡ swap xs i j → get_or xs i d ≡ get_or xs j d
+own-swap d xs i j lt less e =
+    let first = set xs i (get_or xs j d) in
+    let within : j < length first = rw (length-set xs i (get_or xs j d)) less in
+    let there : get_or (set first j (get_or xs i d)) j d ≡ get_or xs i d = get_or-set_same first j (get_or xs i d) d within in
+    sym (rw (swap_is xs i j d lt less, ← e) at there)
+
+-- two places show one element where what is read there is one
+places-same : (d : Literal) (xs : List Literal) (i j : ℕ) → i < length xs → j < length xs → slice_get xs i ≡ slice_get xs j → get_or xs i d ≡ get_or xs j d
+places-same d xs i j lt less e = get_or_from_slice_get xs i (get_or xs j d) d (e ∙ slice_get-get_or xs j d less)
+
+-- and the other way round
+same-places : (d : Literal) (xs : List Literal) (i j : ℕ) → i < length xs → j < length xs → get_or xs i d ≡ get_or xs j d → slice_get xs i ≡ slice_get xs j
+same-places d xs i j lt less e = rw (slice_get-get_or xs i d lt, slice_get-get_or xs j d less, e) refl
+
+-- `swap` leaves a list the same where the two elements are one
+pub swap-same : (r : Bool) (xs : List Literal) (i j : ℕ) → i < length xs → j < length xs → Decides r (slice_get xs i ≡ slice_get xs j) → r ≡ same_items xs (swap xs i j)
+swap-same r xs i j lt less d =
+    let zero = literal.Int (pos 0) in
+    tells-same r xs (swap xs i j)
+        ( (λ t. swap-own zero xs i j lt less (places-same zero xs i j lt less (d.0 t))),
+          (λ e. d.1 (same-places zero xs i j lt less (own-swap zero xs i j lt less e))),
+        )
+
+-- an element of a list in the opposite order
+mirrored : (xs : List Literal) (i : ℕ) → i < length xs → slice_get (reverse xs) i ≡ slice_get xs (length xs - 1 - i)
+mirrored xs i lt =
+    let zero = literal.Int (pos 0) in
+    let within : i < length (reverse xs) = rw (length-reverse xs) lt in
+    rw (slice_get-get_or (reverse xs) i zero within, slice_get-get_or xs (length xs - 1 - i) zero (omega (arith, lt)), get_or-reverse xs i zero lt) refl
+
+-- one more element that is the same in the opposite order
+pub mirrored-more : (xs : List Literal) (i : ℕ) → i < length xs → take i xs ≡ take i (reverse xs) → slice_get xs i ≡ slice_get xs (length xs - 1 - i) → take (i + 1) xs ≡ take (i + 1) (reverse xs)
+mirrored-more xs i lt h e =
+    let zero = literal.Int (pos 0) in
+    take_more_same xs (reverse xs) i zero lt (rw (length-reverse xs) lt) h (places-same zero xs i (length xs - 1 - i) lt (omega (arith, lt)) e ∙ sym (get_or-reverse xs i zero lt))
+
+-- a list that is the same in the opposite order is so at each place
+pub mirrored-at : (xs : List Literal) (i : ℕ) → i < length xs → xs ≡ reverse xs → slice_get xs i ≡ slice_get xs (length xs - 1 - i)
+mirrored-at xs i lt e = rw (← e) at (mirrored xs i lt)
+
+-- a list whose fronts of its length are the same in the opposite order
+pub mirrored-whole : (xs : List Literal) → take (length xs) xs ≡ take (length xs) (reverse xs) → xs ≡ reverse xs
+mirrored-whole xs h = sym (take_all (length xs) xs (omega arith)) ∙ h ∙ take_all (length xs) (reverse xs) (rw (length-reverse xs) (omega arith))
+
+-- a list is what stands before a stretch, the stretch, and what stands behind it
+stretched : (xs : List Literal) (i j : ℕ) → i ≤ j → take i xs ++ take (j - i) (drop i xs) ++ drop j xs ≡ xs
+stretched xs i j le =
+    let whole : i + (j - i) ≡ j = omega (arith, le) in
+    let rest : drop (j - i) (drop i xs) ≡ drop j xs = rw (drop-drop (j - i) i xs, whole) refl in
+    let inner : take (j - i) (drop i xs) ++ drop j xs ≡ drop i xs = rw rest at (take-append-drop (j - i) (drop i xs)) in
+    append_assoc (take i xs) (take (j - i) (drop i xs)) (drop j xs) ∙ rw inner (take-append-drop i xs)
+
+-- `splice` leaves a list the same where the stretch is the atoms
+pub splice-same : (r : Bool) (xs atoms : List Literal) (i j : ℕ) → i ≤ j → Decides r (take (j - i) (drop i xs) ≡ atoms) → r ≡ same_items xs (take i xs ++ atoms ++ drop j xs)
+splice-same r xs atoms i j le d =
+    let middle = take (j - i) (drop i xs) in
+    let whole = stretched xs i j le in
+    tells-same r xs (take i xs ++ atoms ++ drop j xs)
+        ( (λ t. rw (d.0 t) at (sym whole)),
+          (λ e. d.1 (append_cancel_left (take i xs) middle atoms (append_cancel_right (take i xs ++ middle) (take i xs ++ atoms) (drop j xs) (whole ∙ e)))),
+        )
+
+-- nothing behind a list
+extend-none : (xs ys : List Literal) → length ys ≡ 0 → xs ≡ xs ++ ys
+extend-none xs [] e = sym (append-nil xs)
+extend-none xs (y ∷ ys) e = absurd (omega (arith, e))
+
+-- a list that others behind it leave the same
+none-extends : (xs ys : List Literal) → xs ≡ xs ++ ys → length ys ≡ 0
+none-extends xs ys e = let grown : length xs ≡ length xs + length ys = ap length e ∙ length-append xs ys in omega (arith, grown)
+
+-- `extend` leaves a list the same where the other is empty
+pub extend-same : (r : Bool) (xs ys : List Literal) → Decides r (length ys ≡ 0) → r ≡ same_items xs (xs ++ ys)
+extend-same r xs ys d = tells-same r xs (xs ++ ys) (λ t. extend-none xs ys (d.0 t), λ e. d.1 (none-extends xs ys e))
+
+-- one more element at the end
+pub push-differs : (xs : List Literal) (a : Literal) → false ≡ same_items xs (xs ++ a ∷ [])
+push-differs xs a = longer xs (xs ++ a ∷ []) (rw (length_push xs a) (omega arith))
+
+-- one more element at a place
+pub insert-differs : (xs : List Literal) (i : ℕ) (a : Literal) → i ≤ length xs → false ≡ same_items xs (insert xs i a)
+insert-differs xs i a le = longer xs (insert xs i a) (rw (length-insert xs i a le) (omega arith))
+
+-- one element less
+pub remove-differs : (xs : List Literal) (i : ℕ) → i < length xs → false ≡ same_items xs (remove xs i)
+remove-differs xs i lt = shorter xs (remove xs i) (omega (arith, length-remove xs i lt, lt))
+
+-- what is told of a statement is told of one that has to fit
+pub fits-same : (r : Bool) (v : Plain) (answer : Answer) → TellsSame r v answer → TellsSame r v (fitting answer)
+fits-same r v (Ok done) h = elim (nat_le (count done.value) max_count) as (λ fits. TellsSame r v (if fits then Ok done else Err Full)) [ true ↦ h | false ↦ _ ]
+fits-same r v (Err why) h = _
