@@ -4,7 +4,7 @@ use Rattle.std.specs.Prelude.{nat_le, if◌then◌else◌}
 use Rattle.std.specs.Bool.{Decides}
 use Rattle.std.proofs.lemmas.Grind.{common_steps}
 use Rattle.std.proofs.lemmas.Option.{get_or_from_slice_get, slice_get-get_or, slice_get_within}
-use Rattle.std.proofs.lemmas.List.{get_or-set_same, set-get_or, get_or-drop, get_or-reverse, length-reverse, length-set, length-append, length_push, take_more_same, take-append-drop, drop-drop, append_assoc, append_cancel_left, append_cancel_right, append-nil, take_all}
+use Rattle.std.proofs.lemmas.List.{get_or-set_same, set-get_or, get_or-drop, get_or-reverse, length-reverse, length-set, length-append, length-drop, get_or-take, length_push, take_more_same, take-append-drop, drop-drop, append_assoc, append_cancel_left, append_cancel_right, append-nil, take_all}
 use Rattle.std.proofs.lemmas.List.Edits.{swap_is, length-insert, length-remove}
 use Rattle.cow_model.specs.Operation.{Answer, fitting}
 use Rattle.cow_model.specs.Plain.{count, max_count, same_items}
@@ -94,6 +94,18 @@ mirrored-at xs i lt e = rw (← e) at (mirrored xs i lt)
 -- a list whose fronts of its length are the same in the opposite order
 pub mirrored-whole : (xs : List Literal) → take (length xs) xs ≡ take (length xs) (reverse xs) → xs ≡ reverse xs
 mirrored-whole xs h = sym (take_all (length xs) xs (omega arith)) ∙ h ∙ take_all (length xs) (reverse xs) (rw (length-reverse xs) (omega arith))
+
+-- one more element that is the atom in its place
+pub shown-more : (xs atoms : List Literal) (from k : ℕ) (a : Literal) → from + k < length xs → k < length atoms → take k (drop from xs) ≡ take k atoms → slice_get xs (from + k) ≡ Some a → a ≡ get_or atoms k a → take (k + 1) (drop from xs) ≡ take (k + 1) atoms
+shown-more xs atoms from k a lt less h e f =
+    let within : k < length (drop from xs) = rw (length-drop from xs) (omega (arith, lt)) in
+    take_more_same (drop from xs) atoms k a within less h (get_or-drop from xs k a ∙ get_or_from_slice_get xs (from + k) a a e ∙ f)
+
+-- a stretch that is the atoms shows each in its place
+pub shown-at : (xs atoms : List Literal) (from n k : ℕ) (a : Literal) → from + n ≤ length xs → k < n → n ≡ length atoms → take n (drop from xs) ≡ atoms → a ≡ get_or atoms k a → slice_get xs (from + k) ≡ Some a
+shown-at xs atoms from n k a fits lt whole e f =
+    let there : get_or xs (from + k) a ≡ a = sym (get_or-drop from xs k a) ∙ sym (get_or-take n (drop from xs) k a lt) ∙ ap (λ ys. get_or ys k a) e ∙ sym f in
+    slice_get-get_or xs (from + k) a (omega (arith, fits, lt)) ∙ ap (λ y. Some y) there
 
 -- a list is what stands before a stretch, the stretch, and what stands behind it
 stretched : (xs : List Literal) (i j : ℕ) → i ≤ j → take i xs ++ take (j - i) (drop i xs) ++ drop j xs ≡ xs
