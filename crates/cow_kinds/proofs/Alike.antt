@@ -1,27 +1,13 @@
 -- When a change leaves a list the same.
-use Rattle.std.proofs.Common.{◌≡◌, ℕ, suc, ◌+◌, ◌-◌, ◌<◌, ◌≤◌, pos, Bool, true, false, List, [], ◌∷◌, ◌++◌, length, take, drop, reverse, get_or, set, swap, insert, remove, slice_get, Some, Ok, Err, refl, sym, ap, ◌∙◌, arith}
-use Rattle.std.specs.Prelude.{nat_le, if◌then◌else◌}
+use Rattle.std.proofs.Common.{◌≡◌, ℕ, ◌+◌, ◌-◌, ◌<◌, ◌≤◌, pos, Bool, true, List, [], ◌∷◌, ◌++◌, length, take, drop, reverse, get_or, set, swap, slice_get, Some, refl, sym, ap, ◌∙◌, arith}
 use Rattle.std.specs.Bool.{Decides}
-use Rattle.std.proofs.lemmas.Grind.{common_steps}
-use Rattle.std.proofs.lemmas.Option.{get_or_from_slice_get, slice_get-get_or, slice_get_within}
-use Rattle.std.proofs.lemmas.List.{get_or-set_same, set-get_or, get_or-drop, get_or-reverse, length-reverse, length-set, length-append, length-drop, get_or-take, length_push, take_more_same, take-append-drop, drop-drop, append_assoc, append_cancel_left, append_cancel_right, append-nil, take_all}
-use Rattle.std.proofs.lemmas.List.Edits.{swap_is, length-insert, length-remove}
-use Rattle.cow_model.specs.Operation.{Answer, fitting}
-use Rattle.cow_model.specs.Plain.{count, max_count, same_items}
+use Rattle.std.proofs.lemmas.Option.{get_or_from_slice_get, slice_get-get_or}
+use Rattle.std.proofs.lemmas.List.{get_or-set_same, set-get_or, get_or-drop, get_or-reverse, length-reverse, length-set, length-append, length-drop, take_more_same, take-append-drop, drop-drop, append_assoc, append_cancel_left, append_cancel_right, append-nil}
+use Rattle.std.proofs.lemmas.List.Edits.{swap_is}
+use Rattle.cow_model.specs.Plain.{same_items}
 use Rattle.cow_model.specs.declared.plain.Literal.{Literal}
 use Rattle.cow_model.specs.declared.plain.Literal.TheVariants as literal
-use Rattle.cow_model.specs.declared.refusal.Refusal.TheVariants.{Full}
-use Rattle.cow_model.specs.declared.value.Plain.{Plain}
-use Rattle.cow_kinds.specs.Answers.{TellsSame}
 use Rattle.cow_kinds.proofs.Equals.{tells-same}
-
--- lists of different lengths differ
-pub longer : (xs ys : List Literal) → length xs < length ys → false ≡ same_items xs ys
-longer xs ys lt = tells-same false xs ys (λ t. cc, λ e. absurd (omega (arith, lt, rw (← e) at lt)))
-
--- a list of fewer elements differs
-pub shorter : (xs ys : List Literal) → length ys < length xs → false ≡ same_items xs ys
-shorter xs ys lt = tells-same false xs ys (λ t. cc, λ e. absurd (omega (arith, lt, rw (← e) at lt)))
 
 -- a list is the same as itself
 pub itself : (xs : List Literal) → true ≡ same_items xs xs
@@ -69,17 +55,10 @@ same-places d xs i j lt less e = rw (slice_get-get_or xs i d lt, slice_get-get_o
 pub swap-same : (r : Bool) (xs : List Literal) (i j : ℕ) → i < length xs → j < length xs → Decides r (slice_get xs i ≡ slice_get xs j) → r ≡ same_items xs (swap xs i j)
 swap-same r xs i j lt less d =
     let zero = literal.Int (pos 0) in
-    tells-same r xs (swap xs i j)
-        ( (λ t. swap-own zero xs i j lt less (places-same zero xs i j lt less (d.0 t))),
-          (λ e. d.1 (same-places zero xs i j lt less (own-swap zero xs i j lt less e))),
-        )
-
--- an element of a list in the opposite order
-mirrored : (xs : List Literal) (i : ℕ) → i < length xs → slice_get (reverse xs) i ≡ slice_get xs (length xs - 1 - i)
-mirrored xs i lt =
-    let zero = literal.Int (pos 0) in
-    let within : i < length (reverse xs) = rw (length-reverse xs) lt in
-    rw (slice_get-get_or (reverse xs) i zero within, slice_get-get_or xs (length xs - 1 - i) zero (omega (arith, lt)), get_or-reverse xs i zero lt) refl
+    tells-same r xs (swap xs i j) (
+      (λ t. swap-own zero xs i j lt less (places-same zero xs i j lt less (d.0 t))),
+      (λ e. d.1 (same-places zero xs i j lt less (own-swap zero xs i j lt less e))),
+    )
 
 -- one more element that is the same in the opposite order
 pub mirrored-more : (xs : List Literal) (i : ℕ) → i < length xs → take i xs ≡ take i (reverse xs) → slice_get xs i ≡ slice_get xs (length xs - 1 - i) → take (i + 1) xs ≡ take (i + 1) (reverse xs)
@@ -87,25 +66,11 @@ mirrored-more xs i lt h e =
     let zero = literal.Int (pos 0) in
     take_more_same xs (reverse xs) i zero lt (rw (length-reverse xs) lt) h (places-same zero xs i (length xs - 1 - i) lt (omega (arith, lt)) e ∙ sym (get_or-reverse xs i zero lt))
 
--- a list that is the same in the opposite order is so at each place
-pub mirrored-at : (xs : List Literal) (i : ℕ) → i < length xs → xs ≡ reverse xs → slice_get xs i ≡ slice_get xs (length xs - 1 - i)
-mirrored-at xs i lt e = rw (← e) at (mirrored xs i lt)
-
--- a list whose fronts of its length are the same in the opposite order
-pub mirrored-whole : (xs : List Literal) → take (length xs) xs ≡ take (length xs) (reverse xs) → xs ≡ reverse xs
-mirrored-whole xs h = sym (take_all (length xs) xs (omega arith)) ∙ h ∙ take_all (length xs) (reverse xs) (rw (length-reverse xs) (omega arith))
-
 -- one more element that is the atom in its place
 pub shown-more : (xs atoms : List Literal) (from k : ℕ) (a : Literal) → from + k < length xs → k < length atoms → take k (drop from xs) ≡ take k atoms → slice_get xs (from + k) ≡ Some a → a ≡ get_or atoms k a → take (k + 1) (drop from xs) ≡ take (k + 1) atoms
 shown-more xs atoms from k a lt less h e f =
     let within : k < length (drop from xs) = rw (length-drop from xs) (omega (arith, lt)) in
     take_more_same (drop from xs) atoms k a within less h (get_or-drop from xs k a ∙ get_or_from_slice_get xs (from + k) a a e ∙ f)
-
--- a stretch that is the atoms shows each in its place
-pub shown-at : (xs atoms : List Literal) (from n k : ℕ) (a : Literal) → from + n ≤ length xs → k < n → n ≡ length atoms → take n (drop from xs) ≡ atoms → a ≡ get_or atoms k a → slice_get xs (from + k) ≡ Some a
-shown-at xs atoms from n k a fits lt whole e f =
-    let there : get_or xs (from + k) a ≡ a = sym (get_or-drop from xs k a) ∙ sym (get_or-take n (drop from xs) k a lt) ∙ ap (λ ys. get_or ys k a) e ∙ sym f in
-    slice_get-get_or xs (from + k) a (omega (arith, fits, lt)) ∙ ap (λ y. Some y) there
 
 -- a list is what stands before a stretch, the stretch, and what stands behind it
 stretched : (xs : List Literal) (i j : ℕ) → i ≤ j → take i xs ++ take (j - i) (drop i xs) ++ drop j xs ≡ xs
@@ -120,10 +85,10 @@ pub splice-same : (r : Bool) (xs atoms : List Literal) (i j : ℕ) → i ≤ j �
 splice-same r xs atoms i j le d =
     let middle = take (j - i) (drop i xs) in
     let whole = stretched xs i j le in
-    tells-same r xs (take i xs ++ atoms ++ drop j xs)
-        ( (λ t. rw (d.0 t) at (sym whole)),
-          (λ e. d.1 (append_cancel_left (take i xs) middle atoms (append_cancel_right (take i xs ++ middle) (take i xs ++ atoms) (drop j xs) (whole ∙ e)))),
-        )
+    tells-same r xs (take i xs ++ atoms ++ drop j xs) (
+      (λ t. rw (d.0 t) at (sym whole)),
+      (λ e. d.1 (append_cancel_left (take i xs) middle atoms (append_cancel_right (take i xs ++ middle) (take i xs ++ atoms) (drop j xs) (whole ∙ e)))),
+    )
 
 -- nothing behind a list
 extend-none : (xs ys : List Literal) → length ys ≡ 0 → xs ≡ xs ++ ys
@@ -137,20 +102,3 @@ none-extends xs ys e = let grown : length xs ≡ length xs + length ys = ap leng
 -- `extend` leaves a list the same where the other is empty
 pub extend-same : (r : Bool) (xs ys : List Literal) → Decides r (length ys ≡ 0) → r ≡ same_items xs (xs ++ ys)
 extend-same r xs ys d = tells-same r xs (xs ++ ys) (λ t. extend-none xs ys (d.0 t), λ e. d.1 (none-extends xs ys e))
-
--- one more element at the end
-pub push-differs : (xs : List Literal) (a : Literal) → false ≡ same_items xs (xs ++ a ∷ [])
-push-differs xs a = longer xs (xs ++ a ∷ []) (rw (length_push xs a) (omega arith))
-
--- one more element at a place
-pub insert-differs : (xs : List Literal) (i : ℕ) (a : Literal) → i ≤ length xs → false ≡ same_items xs (insert xs i a)
-insert-differs xs i a le = longer xs (insert xs i a) (rw (length-insert xs i a le) (omega arith))
-
--- one element less
-pub remove-differs : (xs : List Literal) (i : ℕ) → i < length xs → false ≡ same_items xs (remove xs i)
-remove-differs xs i lt = shorter xs (remove xs i) (omega (arith, length-remove xs i lt, lt))
-
--- what is told of a statement is told of one that has to fit
-pub fits-same : (r : Bool) (v : Plain) (answer : Answer) → TellsSame r v answer → TellsSame r v (fitting answer)
-fits-same r v (Ok done) h = elim (nat_le (count done.value) max_count) as (λ fits. TellsSame r v (if fits then Ok done else Err Full)) [ true ↦ h | false ↦ _ ]
-fits-same r v (Err why) h = _

@@ -101,13 +101,6 @@ fn swap<T: Element<Q>, Q: Stock, L: Listed<T, Q>>(list: &L, i: i64, j: i64) -> b
     }
 }
 
-// `reverse N`
-fn reversed<T: Element<Q>, Q: Stock, L: Listed<T, Q>>(list: &L) -> bool
-    ensures { result ≡ same_items (L.elements list.now) (reverse (L.elements list.now)) }
-{
-    is_palindrome(list)
-}
-
 // `splice N I J A*`
 fn splice<T: Element<Q>, Q: Stock, L: Listed<T, Q>>(
     list: &L,
@@ -123,21 +116,6 @@ fn splice<T: Element<Q>, Q: Stock, L: Listed<T, Q>>(
     }
 }
 
-// `clear N`
-fn clear<T: Element<Q>, Q: Stock, L: Listed<T, Q>>(list: &L) -> bool
-    ensures { result ≡ same_items (L.elements list.now) [] }
-{
-    list.size() == 0
-}
-
-// `extend N M`
-fn extend<T: Element<Q>, Q: Stock, L: Listed<T, Q>>(list: &L, other: &L) -> bool
-    ensures { result ≡ same_items (L.elements list.now) (L.elements list.now ++ L.elements other.now) }
-{
-    let _ = list;
-    other.size() == 0
-}
-
 // A statement that changes one value, on an array.
 fn array<T: Element<Q>, Q: Stock>(a: &Array<T, Q>, statement: &Statement) -> bool
     ensures { TellsSame result (plain.Array a.now.value) (change_of (out-Statement statement.now) (plain.Array a.now.value)) }
@@ -145,10 +123,10 @@ fn array<T: Element<Q>, Q: Stock>(a: &Array<T, Q>, statement: &Statement) -> boo
     match statement {
         Statement::Set { i, atom, .. } => set(a, 0, *i, atom),
         Statement::Swap { i, j, .. } => swap(a, *i, *j),
-        Statement::Reverse { .. } => reversed(a),
+        Statement::Reverse { .. } => is_palindrome(a),
         Statement::Splice { i, j, atoms, .. } => splice(a, *i, *j, atoms.as_slice()),
         Statement::Reserve { .. } => true,
-        Statement::Clear { .. } => clear(a),
+        Statement::Clear { .. } => a.count() == 0,
         _ => false,
     }
 }
@@ -187,7 +165,9 @@ impl<T: Element<Q>, Q: Stock> Value<T, Q> {
         ensures { TellsSame result (plain_of self.now) (fitting (change_by_of (out-Statement statement.now) (plain_of self.now) (plain_of other.now))) }
     {
         match (self, statement, other) {
-            (Value::Array(a), Statement::Extend { .. }, Value::Array(other)) => extend(a, other),
+            (Value::Array(_), Statement::Extend { .. }, Value::Array(others)) => {
+                others.count() == 0
+            }
             _ => false,
         }
     }

@@ -11,6 +11,8 @@
 //! - `copied` rises by no more than the literals of the statement and, where the value isn't alone, its
 //!   size. Spare moves by no more than the units that are held or brought in: where there are none, it stays,
 //!   and none are there afterwards.
+//! - `keeps`, `keeps_pop` and `keeps_by` tell before a statement whether it leaves the value the same, by the
+//!   definition `same_plain`, if it isn't refused. They need no second handle, no memory and no holder.
 //!
 //! The enum keeps no invariant beyond those of its kinds. The layer above uses the calls of [`Value`] alone: it
 //! finds the names, keeps the flags, prints the refusals and bounds the text of `show`.

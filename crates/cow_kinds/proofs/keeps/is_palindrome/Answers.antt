@@ -1,4 +1,4 @@
-use Rattle.std.proofs.Common.{◌≡◌, ◌+◌, ◌-◌, length, slice_get, arith}
+use Rattle.std.proofs.Common.{◌≡◌, ◌-◌, length, slice_get, arith}
 use Rattle.std.proofs.lemmas.Grind.{common_steps}
 use Rattle.cow_kinds.proofs.Alike.{mirrored-more}
 use Rattle.cow_kinds.proofs.keeps.is_palindrome.Goals as goal
