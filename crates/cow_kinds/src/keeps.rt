@@ -1,6 +1,6 @@
 // Whether a statement leaves a value the same, told before it is done: no memory is taken and no element is
 // made.
-ghost use Rattle.std.specs.Prelude.{◌≡◌, ◌-◌, ◌≤◌, ◌↔◌, [], ◌++◌, take, drop, reverse, length, slice_get, slice_set, Some, IfSome, IsTrue};
+ghost use Rattle.std.specs.Prelude.{◌≡◌, ◌-◌, ◌≤◌, ◌↔◌, ◌++◌, take, drop, reverse, length, slice_get, slice_set, Some, IfSome, IsTrue};
 ghost use Rattle.std.specs.List as lists;
 ghost use Rattle.cow_model.specs.Changes.{change_of, change_by_of};
 ghost use Rattle.cow_model.specs.Operation as spec;

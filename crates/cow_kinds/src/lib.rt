@@ -18,7 +18,7 @@
 //! finds the names, keeps the flags, prints the refusals and bounds the text of `show`.
 //!
 //! A kind is added by a module like `array`, with its `change`, `pop` and `tell`, by what contracts see of it in
-//! `specs/Seen.antt`, and by one arm in each match of `value`.
+//! `specs/Seen.antt`, and by one arm in each match of `value` and `keeps`.
 #![tactic(auto)]
 
 mod array;
