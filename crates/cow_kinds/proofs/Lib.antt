@@ -1,3 +1,4 @@
+pub mod Alike
 pub mod Bare
 pub mod Equals
 pub mod Printing

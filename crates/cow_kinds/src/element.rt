@@ -1,4 +1,4 @@
-ghost use Rattle.std.specs.Prelude.{◌≡◌, ◌≤◌, ◌++◌, IfOk, OnOk, OnErr};
+ghost use Rattle.std.specs.Prelude.{◌≡◌, ◌≤◌, ◌++◌, ◌↔◌, IsTrue, IfOk, OnOk, OnErr};
 ghost use Rattle.std.specs.Io.{StartsWith};
 ghost use Rattle.cow_model.specs.Literals.{FitsText};
 ghost use Rattle.cow_model.specs.Printed.{atom_text};
@@ -27,6 +27,10 @@ pub trait Element<Q: Stock>: Key<Q> {
         ensures ok { OnOk result (text.new.items ≡ text.old.items ++ atom_text (Self.plain self.now)) }
         ensures front { StartsWith text.new.items text.old.items };
 
+    /// Whether its plain value is the literal. Takes no memory.
+    fn is_literal(&self, literal: &Literal) -> bool
+        ensures { IsTrue result ↔ (Self.plain self.now ≡ literal.now) };
+
     ghost weighs_one: { Self.WEIGHT ≡ 1 };
 }
 
@@ -37,6 +41,14 @@ impl<Q: Stock> Element<Q> for Atom<Q> {
 
     fn put(&self, text: &mut Vec<u8>) -> Result<(), NoMemory> {
         put_atom(text, self)
+    }
+
+    fn is_literal(&self, literal: &Literal) -> bool {
+        match (self, literal) {
+            (Atom::Int(x), Literal::Int(y)) => *x == *y,
+            (Atom::Text(text), Literal::Text(bytes)) => text.bytes() == bytes.as_slice(),
+            _ => false,
+        }
     }
 
     ghost weighs_one = { Prim.search rules };

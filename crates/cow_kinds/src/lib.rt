@@ -11,16 +11,19 @@
 //! - `copied` rises by no more than the literals of the statement and, where the value isn't alone, its
 //!   size. Spare moves by no more than the units that are held or brought in: where there are none, it stays,
 //!   and none are there afterwards.
+//! - `keeps`, `keeps_pop` and `keeps_by` tell before a statement whether it leaves the value the same, by the
+//!   definition `same_plain`, if it isn't refused. They need no second handle, no memory and no holder.
 //!
 //! The enum keeps no invariant beyond those of its kinds. The layer above uses the calls of [`Value`] alone: it
 //! finds the names, keeps the flags, prints the refusals and bounds the text of `show`.
 //!
 //! A kind is added by a module like `array`, with its `change`, `pop` and `tell`, by what contracts see of it in
-//! `specs/Seen.antt`, and by one arm in each match of `value`.
+//! `specs/Seen.antt`, and by one arm in each match of `value` and `keeps`.
 #![tactic(auto)]
 
 mod array;
 mod element;
+mod keeps;
 mod lines;
 mod listed;
 mod positions;

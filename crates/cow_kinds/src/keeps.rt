@@ -1,0 +1,174 @@
+// Whether a statement leaves a value the same, told before it is done: no memory is taken and no element is
+// made.
+ghost use Rattle.std.specs.Prelude.{◌≡◌, ◌-◌, ◌≤◌, ◌↔◌, ◌++◌, take, drop, reverse, length, slice_get, slice_set, Some, IfSome, IsTrue};
+ghost use Rattle.std.specs.List as lists;
+ghost use Rattle.cow_model.specs.Changes.{change_of, change_by_of};
+ghost use Rattle.cow_model.specs.Operation as spec;
+ghost use Rattle.cow_model.specs.Operation.{fitting};
+ghost use Rattle.cow_model.specs.Plain.{same_items};
+ghost use Rattle.cow_model.specs.declared.statement.Statement.{out-Statement};
+ghost use Rattle.cow_model.specs.declared.value.Plain.TheVariants as plain;
+ghost use Rattle.cow_kinds.specs.Answers.{TellsSame};
+ghost use Rattle.cow_kinds.specs.Values.{plain_of};
+
+use crate::element::Element;
+use crate::listed::Listed;
+use crate::positions::{index, stretch};
+use crate::value::Value;
+use cow_array::{Array, ArraySlice};
+use cow_cell::Stock;
+use cow_item::Key;
+use cow_model::{Literal, Side, Statement};
+
+// Whether the element at a place is the atom.
+fn is_at<T: Element<Q>, Q: Stock, L: Listed<T, Q>>(list: &L, place: usize, atom: &Literal) -> bool
+    ensures { IsTrue result ↔ (slice_get (L.elements list.now) place ≡ Some atom.now) }
+{
+    match list.at(place) {
+        Some(x) => x.is_literal(atom),
+        None => false,
+    }
+}
+
+// Whether the elements at two places are one.
+fn agree<T: Element<Q>, Q: Stock, L: Listed<T, Q>>(list: &L, i: usize, j: usize) -> bool
+    ensures { IsTrue result ↔ (slice_get (L.elements list.now) i ≡ slice_get (L.elements list.now) j) }
+{
+    match (list.at(i), list.at(j)) {
+        (Some(x), Some(y)) => x.same(y),
+        (None, None) => true,
+        _ => false,
+    }
+}
+
+// Whether the list is the same in the opposite order.
+fn is_palindrome<T: Element<Q>, Q: Stock, L: Listed<T, Q>>(list: &L) -> bool
+    ensures { IsTrue result ↔ (L.elements list.now ≡ reverse (L.elements list.now)) }
+{
+    let n = list.size();
+    for i in 0..n {
+        if !agree(list, i, n - 1 - i) {
+            return false;
+        }
+    }
+    true
+}
+
+// Whether the elements from one place up to another are the atoms.
+fn shows<T: Element<Q>, Q: Stock, L: Listed<T, Q>>(
+    list: &L,
+    from: usize,
+    to: usize,
+    atoms: &[Literal],
+) -> bool
+    requires order { from ≤ to }
+    requires within { to ≤ length (L.elements list.now) }
+    ensures { IsTrue result ↔ (take (to - from) (drop from (L.elements list.now)) ≡ atoms.now) }
+{
+    if to - from != atoms.len() {
+        return false;
+    }
+    for k in 0..atoms.len() {
+        if !is_at(list, from + k, &atoms[k]) {
+            return false;
+        }
+    }
+    true
+}
+
+// `set N I A`, of a list whose first element has the index `start`
+fn set<T: Element<Q>, Q: Stock, L: Listed<T, Q>>(
+    list: &L,
+    start: usize,
+    i: i64,
+    atom: &Literal,
+) -> bool
+    ensures { IfSome (spec.index start (length (L.elements list.now)) i) (λ k. result ≡ same_items (L.elements list.now) (slice_set (L.elements list.now) k atom.now)) }
+{
+    match index(start, list.size(), i) {
+        Some(place) => is_at(list, place, atom),
+        None => false,
+    }
+}
+
+// `swap N I J`
+fn swap<T: Element<Q>, Q: Stock, L: Listed<T, Q>>(list: &L, i: i64, j: i64) -> bool
+    ensures { IfSome (spec.index 0 (length (L.elements list.now)) i) (λ k. IfSome (spec.index 0 (length (L.elements list.now)) j) (λ m. result ≡ same_items (L.elements list.now) (lists.swap (L.elements list.now) k m))) }
+{
+    match (index(0, list.size(), i), index(0, list.size(), j)) {
+        (Some(first), Some(second)) => agree(list, first, second),
+        _ => false,
+    }
+}
+
+// `splice N I J A*`
+fn splice<T: Element<Q>, Q: Stock, L: Listed<T, Q>>(
+    list: &L,
+    i: i64,
+    j: i64,
+    atoms: &[Literal],
+) -> bool
+    ensures { IfSome (spec.stretch (length (L.elements list.now)) i j) (λ r. result ≡ same_items (L.elements list.now) (take r.0 (L.elements list.now) ++ atoms.now ++ drop r.1 (L.elements list.now))) }
+{
+    match stretch(list.size(), i, j) {
+        Some((from, to)) => shows(list, from, to, atoms),
+        None => false,
+    }
+}
+
+// A statement that changes one value, on an array.
+fn array<T: Element<Q>, Q: Stock>(a: &Array<T, Q>, statement: &Statement) -> bool
+    ensures { TellsSame result (plain.Array a.now.value) (change_of (out-Statement statement.now) (plain.Array a.now.value)) }
+{
+    match statement {
+        Statement::Set { i, atom, .. } => set(a, 0, *i, atom),
+        Statement::Swap { i, j, .. } => swap(a, *i, *j),
+        Statement::Reverse { .. } => is_palindrome(a),
+        Statement::Splice { i, j, atoms, .. } => splice(a, *i, *j, atoms.as_slice()),
+        Statement::Reserve { .. } => true,
+        Statement::Clear { .. } => a.count() == 0,
+        _ => false,
+    }
+}
+
+// The same on a slice. One that makes an array of it makes another value.
+fn slice<T: Element<Q>, Q: Stock>(s: &ArraySlice<T, Q>, statement: &Statement) -> bool
+    ensures { TellsSame result (plain.Slice s.now.value.start s.now.value.items) (change_of (out-Statement statement.now) (plain.Slice s.now.value.start s.now.value.items)) }
+{
+    match statement {
+        Statement::Set { i, atom, .. } => set(s, s.start(), *i, atom),
+        _ => false,
+    }
+}
+
+impl<T: Element<Q>, Q: Stock> Value<T, Q> {
+    /// Whether a statement that changes one value leaves it the same, if it isn't refused. At most linear in
+    /// its elements, of which none is made.
+    pub fn keeps(&self, statement: &Statement) -> bool
+        ensures { TellsSame result (plain_of self.now) (fitting (change_of (out-Statement statement.now) (plain_of self.now))) }
+    {
+        match self {
+            Value::Array(a) => array(a, statement),
+            Value::Slice(s) => slice(s, statement),
+        }
+    }
+
+    /// Whether `pop N END` leaves it the same, if it isn't refused: exactly where there is nothing to pop.
+    pub fn keeps_pop(&self, side: Side) -> bool
+        ensures { TellsSame result (plain_of self.now) (fitting (spec.pop side (plain_of self.now))) }
+    {
+        self.count() == 0
+    }
+
+    /// Whether a statement that changes it by another value leaves it the same, if it isn't refused.
+    pub fn keeps_by(&self, statement: &Statement, other: &Value<T, Q>) -> bool
+        ensures { TellsSame result (plain_of self.now) (fitting (change_by_of (out-Statement statement.now) (plain_of self.now) (plain_of other.now))) }
+    {
+        match (self, statement, other) {
+            (Value::Array(_), Statement::Extend { .. }, Value::Array(others)) => {
+                others.count() == 0
+            }
+            _ => false,
+        }
+    }
+}
