@@ -4,11 +4,11 @@ use Rattle.std.specs.Prelude.{Option, Some, None}
 use Rattle.std.proofs.lemmas.List.{at_drop_more}
 use Rattle.std.specs.Io.KnownBytes.{Appends}
 use Rattle.cow_model.specs.Env.{start}
-use Rattle.cow_model.specs.Run.{run_one, text_from, text_of, env_after}
+use Rattle.cow_model.specs.Run.{run_one, text_from, text_of, env_after, bound}
 use Rattle.cow_model.specs.declared.outcome.Environment.{Environment}
 use Rattle.cow_model.specs.declared.statement.Statement.{Statement, out-Statement}
 use Rattle.cow_eval.specs.Built.{is_built, line_of, unbuilt_line}
-use Rattle.cowrun.specs.Answer.{IsLine}
+use Rattle.cowrun.specs.Answer.{IsLine, whole_text}
 use Rattle.cowrun.specs.Lines.{census_if}
 use Rattle.cowrun.specs.Output.{WritesFront, WritesLine}
 use Rattle.cowrun.proofs.Known.{appends_more}
@@ -80,3 +80,9 @@ front_behind before now after text next a (front, is_front, b) =
 -- the census with the numbers told otherwise
 pub census_front : (before after : Option (List ℕ)) (census : Bool) (copied copied' most most' : ℕ) → copied ≡ copied' → most ≡ most' → WritesFront before after (census_if census copied most) → WritesFront before after (census_if census copied' most')
 census_front before after census copied copied' most most' p q = subst (λ text. WritesFront before after text) (ap (λ n. census_if census n most) p ∙ ap (census_if census copied') q)
+
+-- the text of a script was written, and then its census
+pub census_written : (before now after : Option (List ℕ)) (ss : List Statement) (census : Bool) (copied copied' most : ℕ) → copied ≡ copied' → most ≡ bound ss [] → Appends before now (text_of ss []) → Appends now after (census_if census copied most) → Appends before after (whole_text census copied' ss)
+census_written before now after ss census copied copied' most p q text line =
+    appends_more before now after (text_of ss []) (census_if census copied' (bound ss [])) text
+    (subst (λ t. Appends now after t) (ap (λ n. census_if census n most) p ∙ ap (census_if census copied') q) line)

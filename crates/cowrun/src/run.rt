@@ -116,7 +116,7 @@ fn run_statements<Q: Stock, K: Sink>(
     ensures err { OnErr result (WritesFront (K.held sink.old) (K.held sink.new) (text_of statements.now [])) }
     ensures allowed { OnOk result (env.new.allowed ≡ bound statements.now []) }
     ensures most { h.new.copied ≤ bound statements.now [] }
-    ensures least { OnOk result (least statements.now [] ≤ h.new.copied) }
+    ensures least { OnOk result (RisesBy (least statements.now []) h.old h.new) }
     ensures bare { IsBareScript statements.now → OnOk result (IsBare is_text env.new.names × (h.new.spare + length env.new.names ≡ stock_units)) }
     ensures fault { IsErrOf result RunStop.WriteFault → Rose (K.faults sink.old) (K.faults sink.new) }
     ensures later { K.faults sink.old ≤ K.faults sink.new }
