@@ -162,6 +162,13 @@ const ROWS: &[(&[&str], &str, &str, u8)] = &[
         "[1, 2, 1, 2] / copied 6 of at most 6",
         0,
     ),
+    // a storage that nobody else holds any more is changed in place, where the rule allows three copies
+    (
+        CENSUS,
+        "let a = array 1 2 3 / let b = a / drop a / append b 4 / show b",
+        "[1, 2, 3, 4] / copied 4 of at most 7",
+        0,
+    ),
     // empty_array
     (
         RUN,
