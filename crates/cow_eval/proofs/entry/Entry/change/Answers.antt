@@ -53,4 +53,4 @@ returns-clause-pays g c =
     let e : Held = record { name = c.self.inside.name; seen = seen v; flag = c.self.inside.alone } in
     let e' : Held = record { name = e.name; seen = seen r.new.self; flag = c.flag_after-self-inside.result } in
     rw (← c.self.view_is) (pays-literals p (own_cost (entry_of e)) (literals statement) a _ e e' c.args.h.now r.new.h
-      (pays-shared p (counted_in p statement) (literals statement) a e e' (IsOk r.result) c.args.h.now r.new.h c.if-self.false c.self.invariant.small c.requires.few r.ensures.free r.ensures.bare r.ensures.paid))
+    (pays-shared p (counted_in p statement) (literals statement) a e e' (IsOk r.result) c.args.h.now r.new.h c.if-self.false c.self.invariant.small c.requires.few r.ensures.free r.ensures.bare r.ensures.paid))
