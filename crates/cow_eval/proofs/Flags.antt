@@ -140,39 +140,6 @@ after-pop (value.Slice a) side.Last e x f = refl
 after-pop (value.Slice a) side.Min e x f = refl
 after-pop (value.Slice a) side.Max e x f = refl
 
-pub front-kept : {T Q : Type 0} (w : Value T Q) (s : Side) (e : Entry) (x : Plain) → is_front s (plain_of w) ≡ true → alone_after_pop_of s (plain_of w) e x ≡ e.alone
-front-kept (value.Array a) side.First e x f = cc
-front-kept (value.Array a) side.Last e x f = cc
-front-kept (value.Array a) side.Min e x f = cc
-front-kept (value.Array a) side.Max e x f = cc
-front-kept (value.Slice a) side.First e x f = refl
-front-kept (value.Slice a) side.Last e x f = cc
-front-kept (value.Slice a) side.Min e x f = cc
-front-kept (value.Slice a) side.Max e x f = cc
-
-or-true : (a b : Bool) → a ≡ true → (a || b) ≡ a
-or-true true b h = refl
-or-true false b h = cc
-
-pub alone-kept : {T Q : Type 0} (w : Value T Q) (s : Side) (e : Entry) (x : Plain) → e.alone ≡ true → alone_after_pop_of s (plain_of w) e x ≡ e.alone
-alone-kept (value.Array a) side.First e x f = or-true e.alone _ f
-alone-kept (value.Array a) side.Last e x f = or-true e.alone _ f
-alone-kept (value.Array a) side.Min e x f = or-true e.alone _ f
-alone-kept (value.Array a) side.Max e x f = or-true e.alone _ f
-alone-kept (value.Slice a) side.First e x f = refl
-alone-kept (value.Slice a) side.Last e x f = or-true e.alone _ f
-alone-kept (value.Slice a) side.Min e x f = or-true e.alone _ f
-alone-kept (value.Slice a) side.Max e x f = or-true e.alone _ f
-
-kept-entry : (e : Entry) (v' : Plain) (alone : Plain → Bool) (a : Answer) → ((x : Plain) → alone x ≡ e.alone) → v' ≡ value_after e.value a → (record { name = e.name; value = v'; alone = e.alone }) ≡ entry_after alone e a
-kept-entry e v' alone (Ok d) same value = rw (value, same d.value) refl
-kept-entry e v' alone (Err why) same value = rw value refl
-
--- an entry whose flag a pop keeps
-pub entry-kept : {X : Type 0} (r : Result X NoMemory) (e : Entry) (v' : Plain) (alone : Plain → Bool) (a : Answer) → ((x : Plain) → alone x ≡ e.alone) → OnOk r (v' ≡ value_after e.value a) → OnOk r ((record { name = e.name; value = v'; alone = e.alone }) ≡ entry_after alone e a)
-entry-kept (Ok x) e v' alone a same value = kept-entry e v' alone a same value
-entry-kept (Err x) e v' alone a same value = _
-
 swap-flag : (e : Entry) (alone other : Plain → Bool) (a : Answer) → ((x : Plain) → alone x ≡ other x) → entry_after other e a ≡ entry_after alone e a
 swap-flag e alone other (Ok d) same = rw (same d.value) refl
 swap-flag e alone other (Err why) same = refl
