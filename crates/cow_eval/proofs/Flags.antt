@@ -1,9 +1,8 @@
 -- The flag of an entry after a change of its value.
-use Rattle.std.proofs.Common.{◌≡◌, ℕ, ◌-◌, take, [], ◌∷◌, ◌≤◌, ◌⊎◌, inl, inr, Bool, true, false, not, ◌||◌, List, length, Result, Ok, Err, refl, ap, sym, ◌∙◌, arith, leb, if◌then◌else◌}
+use Rattle.std.proofs.Common.{◌≡◌, ℕ, ◌-◌, take, [], ◌∷◌, ◌≤◌, ◌⊎◌, inl, inr, Bool, true, false, not, List, length, Result, Ok, Err, refl, ap, sym, ◌∙◌, arith, leb, if◌then◌else◌}
 use Rattle.std.specs.Prelude.{⊤, IfOk, OnOk, OnErr}
 use Rattle.std.proofs.lemmas.Bool.{leb-true, le-leb}
 use Rattle.std.proofs.lemmas.List.{length-take}
-use Rattle.std.proofs.lemmas.Grind.{common_steps}
 use Rattle.cow_model.specs.Operation.{Answer, fitting, pop, slice_popped}
 use Rattle.cow_model.specs.Plain.{count, max_count, same_items, same_plain}
 use Rattle.cow_model.specs.Sharing.{alone_after, alone_after_pop_of}
@@ -16,14 +15,12 @@ use Rattle.cow_model.specs.declared.plain.Literal.{Literal}
 use Rattle.cow_model.specs.declared.statement.Side.{Side}
 use Rattle.cow_model.specs.declared.statement.Side.TheVariants as side
 use Rattle.cow_model.specs.declared.value.Plain.{Plain}
-use Rattle.cow_model.specs.declared.value.Plain.TheVariants as plain
 use Rattle.cow_kinds.specs.Answers.{TellsSame, verdict, value_after}
-use Rattle.cow_kinds.specs.Seen.{Seen, StaysAlone, pop_alone}
+use Rattle.cow_kinds.specs.Seen.{Seen, pop_alone}
 use Rattle.cow_kinds.specs.Values.{seen, plain_of}
 use Rattle.cow_kinds.specs.declared.value.Value.{Value}
 use Rattle.cow_kinds.specs.declared.value.Value.TheVariants as value
 use Rattle.cow_kinds.proofs.Equals.{tells-same}
-use Rattle.cow_eval.specs.Envs.{Held, IsKept, entry_of}
 use Rattle.cow_eval.specs.Entries.{entry_after, flag_after, is_front}
 
 -- a list is one with itself

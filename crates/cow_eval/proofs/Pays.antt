@@ -1,10 +1,9 @@
 -- What a change of an entry costs.
-use Rattle.std.proofs.Common.{◌≡◌, ℕ, ◌+◌, ◌*◌, ◌^◌, ◌≤◌, Bool, true, false, Ok, Err, refl, arith}
-use Rattle.std.proofs.lemmas.Grind.{common_steps}
+use Rattle.std.proofs.Common.{◌≡◌, ℕ, ◌+◌, ◌≤◌, Bool, true, false, Ok, Err, refl, arith}
 use Rattle.cow_model.specs.Flat.{copies}
 use Rattle.cow_model.specs.Operation.{Answer}
 use Rattle.cow_model.specs.Plain.{count, size, max_count}
-use Rattle.cow_model.specs.Purse.{Purse, RisesWithin}
+use Rattle.cow_model.specs.Purse.{Purse}
 use Rattle.cow_model.specs.Sharing.{own_cost}
 use Rattle.cow_model.specs.declared.plain.Literal.{Literal}
 use Rattle.cow_kinds.specs.Answers.{is_refused}
@@ -13,7 +12,7 @@ use Rattle.cow_kinds.specs.Values.{plain_of}
 use Rattle.cow_kinds.specs.declared.value.Value.{Value}
 use Rattle.cow_kinds.specs.declared.value.Value.TheVariants as value
 use Rattle.cow_eval.specs.Envs.{Held, entry_of}
-use Rattle.cow_eval.specs.Entries.{Pays, allowed_for, most_units}
+use Rattle.cow_eval.specs.Entries.{Pays, allowed_for}
 
 -- an array or a slice has as many atoms as elements
 pub size-small : {T Q : Type 0} (v : Value T Q) → count (plain_of v) ≤ max_count → size (plain_of v) ≤ max_count

@@ -1,22 +1,21 @@
 -- What a change of one name's value by another's costs, or by itself.
-use Rattle.std.proofs.Common.{◌≡◌, if◌then◌else◌, ℕ, ◌+◌, ◌<◌, ◌≤◌, ◌++◌, Bool, true, false, not, ◌&&◌, List, length, map, get_or, set, Some, Ok, Err, Result, refl, ap, sym, ◌∙◌, arith, subst}
-use Rattle.std.specs.Prelude.{⊤, OnErr}
+use Rattle.std.proofs.Common.{◌≡◌, if◌then◌else◌, ℕ, ◌+◌, ◌<◌, ◌++◌, Bool, true, false, not, ◌&&◌, List, length, map, get_or, set, Some, Ok, Err, Result, refl, ap, sym, ◌∙◌, arith}
+use Rattle.std.specs.Prelude.{⊤}
 use Rattle.std.specs.Str.{bytes_eq}
-use Rattle.std.proofs.lemmas.List.{set-append_left, length-set, length-map}
+use Rattle.std.proofs.lemmas.List.{set-append_left}
 use Rattle.cow_model.specs.Lexis.{Text}
 use Rattle.cow_model.specs.Env as env
 use Rattle.cow_model.specs.Operation.{Answer, fitting}
 use Rattle.cow_model.specs.Plain.{size}
 use Rattle.cow_model.specs.Purse.{Purse}
 use Rattle.cow_model.specs.Sharing.{own_cost, both_cost, alone_after}
-use Rattle.cow_model.specs.Step.{becomes, with_entry, with_found, change_by}
+use Rattle.cow_model.specs.Step.{becomes, with_found, change_by}
 use Rattle.cow_model.specs.declared.outcome.Entry.{Entry}
 use Rattle.cow_model.specs.declared.outcome.Environment.{Environment}
-use Rattle.cow_model.specs.declared.outcome.Outcome.{Outcome}
 use Rattle.cow_model.specs.declared.plain.Literal.{Literal}
 use Rattle.cow_model.specs.declared.refusal.Refusal.{Refusal}
 use Rattle.cow_model.specs.declared.value.Plain.{Plain}
-use Rattle.cow_kinds.specs.Answers.{verdict, is_refused}
+use Rattle.cow_kinds.specs.Answers.{is_refused}
 use Rattle.cow_kinds.specs.Seen.{units}
 use Rattle.cow_eval.specs.Envs.{Held, Envs, entry_of, env_of, IsBare, Balances}
 use Rattle.cow_eval.specs.Entries.{allowed_for, ChangedBy, Pays, Paid, PaysBy}

@@ -1,4 +1,3 @@
-use Rattle.std.proofs.Common.{◌≡◌, refl}
 use Rattle.std.specs.Prelude.{IsOk}
 use Rattle.cow_model.specs.Atoms.{counted_in}
 use Rattle.cow_model.specs.Changes.{change_of}
@@ -7,7 +6,6 @@ use Rattle.cow_model.specs.Sharing.{literals, own_cost}
 use Rattle.cow_model.specs.declared.outcome.Entry.{Entry}
 use Rattle.cow_model.specs.declared.statement.Statement.{out-Statement}
 use Rattle.cow_kinds.specs.Values.{seen, plain_of}
-use Rattle.cow_eval.specs.Entries.{flag_after}
 use Rattle.cow_eval.specs.Envs.{Held, entry_of}
 use Rattle.cow_eval.proofs.Flags.{small-after, first-of, entry-alone, entry-told, alone-told}
 use Rattle.cow_eval.proofs.Pays.{pays-shared, pays-literals}

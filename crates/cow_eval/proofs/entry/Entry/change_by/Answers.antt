@@ -1,4 +1,3 @@
-use Rattle.std.proofs.Common.{◌≡◌, refl}
 use Rattle.std.specs.Prelude.{IsOk}
 use Rattle.cow_model.specs.Changes.{change_by_of}
 use Rattle.cow_model.specs.Operation.{fitting}

@@ -1,4 +1,4 @@
-use Rattle.std.proofs.Common.{◌≡◌, false, refl, sym, ◌∙◌}
+use Rattle.std.proofs.Common.{sym, ◌∙◌}
 use Rattle.cow_model.specs.Operation as operation
 use Rattle.cow_model.specs.Sharing.{alone_after, alone_after_pop}
 use Rattle.cow_model.specs.declared.outcome.Entry.{Entry}
