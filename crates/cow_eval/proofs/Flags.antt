@@ -32,6 +32,7 @@ same-self : {T Q : Type 0} (v : Value T Q) → same_plain (plain_of v) (plain_of
 same-self (value.Array a) = same-list a.value
 same-self (value.Slice s) = rw (same-list s.value.items) (search (arith))
 
+-- a test of the count leaves at most 65,536 elements
 fits-if : (b : Bool) (v : Plain) (d : Done) → (b ≡ true → count d.value ≤ max_count) → count v ≤ max_count → count (value_after v (if b then Ok d else Err Full)) ≤ max_count
 fits-if true v d fits small = fits refl
 fits-if false v d fits small = small
@@ -46,10 +47,12 @@ pub small-after : {X : Type 0} (r : Result X NoMemory) (v v' : Plain) (a : Answe
 small-after (Ok x) v v' a ok err small = rw ok (fits v a small)
 small-after (Err x) v v' a ok err small = rw err small
 
+-- the first of two things that hold after a failure
 pub first-of : {X E : Type 0} (A B : Type 0) (r : Result X E) → OnErr r (A × B) → OnErr r A
 first-of A B (Ok x) h = _
 first-of A B (Err x) h = h.0
 
+-- what was told to differ is alone
 differs : (s : Bool) (v d : Plain) (after : Seen) → same_plain v v ≡ true → s ≡ same_plain v d → not s ≡ true → after.value ≡ d → (after.value ≡ v) ⊎ (after.alone ≡ true) → after.alone ≡ true
 differs true v d after self told h value changed = cc
 differs false v d after self told h value (inl e) =
@@ -58,6 +61,7 @@ differs false v d after self told h value (inl e) =
     cc
 differs false v d after self told h value (inr a) = a
 
+-- a value whose flag was set is alone
 by-told : (keeps : Bool) (r : Result (Result ⊤ Refusal) NoMemory) (v : Plain) (a : Answer) (after : Seen) → same_plain v v ≡ true → TellsSame keeps v a → IfOk r (λ x. x ≡ verdict a) → OnOk r (after.value ≡ value_after v a) →
     (after.value ≡ v) ⊎ (after.alone ≡ true) → flag_after keeps r ≡ true → after.alone ≡ true
 by-told keeps (Ok (Ok x)) v (Ok d) after self told is value changed h = differs keeps v d.value after self told h value changed
@@ -70,6 +74,7 @@ pub alone-told : {T Q : Type 0} (v : Value T Q) (keeps : Bool) (r : Result (Resu
     (after.value ≡ plain_of v) ⊎ (after.alone ≡ true) → flag_after keeps r ≡ true → after.alone ≡ true
 alone-told v keeps r a after told is value changed h = by-told keeps r (plain_of v) a after (same-self v) told is value changed h
 
+-- the entry behind a change of a value that was alone
 flag-alone : (e : Entry) (v' : Plain) (a : Answer) → e.alone ≡ true → v' ≡ value_after e.value a → (record { name = e.name; value = v'; alone = e.alone }) ≡ entry_after (alone_after e) e a
 flag-alone e v' (Ok d) is value = rw (value, is) refl
 flag-alone e v' (Err why) is value = rw value refl
@@ -88,12 +93,15 @@ entry-told keeps (Ok (Err why)) e v' (Ok d) shares told is value = cc
 entry-told keeps (Ok (Err why)) e v' (Err other) shares told is value = rw value (ap (λ b. record { name = e.name; value = e.value; alone = b }) (sym shares))
 entry-told keeps (Err x) e v' a shares told is value = _
 
+-- what is small enough fits
 fits-same : (d : Done) → count d.value ≤ max_count → fitting (Ok d) ≡ Ok d
 fits-same d h = rw (le-leb (count d.value) max_count h) refl
 
+-- a front is no longer than the whole
 shorter : (items : List Literal) (k : ℕ) → length items ≤ max_count → length (take k items) ≤ max_count
 shorter items k h = rw (length-take k items) (omega arith)
 
+-- a slice without its first element fits
 slice-fits : (start : ℕ) (items : List Literal) → length items ≤ max_count → fitting (slice_popped start items) ≡ slice_popped start items
 slice-fits start [] h = refl
 slice-fits start (a ∷ items) h = fits-same _ (omega arith)
@@ -137,6 +145,7 @@ after-pop (value.Slice a) side.Last e x f = refl
 after-pop (value.Slice a) side.Min e x f = refl
 after-pop (value.Slice a) side.Max e x f = refl
 
+-- one flag for another that is the same
 swap-flag : (e : Entry) (alone other : Plain → Bool) (a : Answer) → ((x : Plain) → alone x ≡ other x) → entry_after other e a ≡ entry_after alone e a
 swap-flag e alone other (Ok d) same = rw (same d.value) refl
 swap-flag e alone other (Err why) same = refl

@@ -44,6 +44,7 @@ pays-shared p u n a before after A h h' shares small few free bare costs =
       bare = λ none zero. (bare zero none, (let down = costs.moved.falls in let up = costs.moved.rises in omega (arith, none, zero, down, up)));
     }
 
+-- literals are counted whether the change is refused or not
 literals-beside : (a : Answer) (m n : ℕ) → allowed_for (m + n) a ≤ n + allowed_for m a
 literals-beside (Ok d) m n = omega arith
 literals-beside (Err why) m n = omega arith
