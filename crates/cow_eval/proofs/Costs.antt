@@ -26,10 +26,19 @@ allows : (before : Environment) (name : Text) (n : ℕ) (alone : Plain → Bool)
 allows before name n alone (Ok done) = omega arith
 allows before name n alone (Err why) = omega arith
 
--- one that isn't refused allows its cost
-allows-all : (before : Environment) (name : Text) (n : ℕ) (alone : Plain → Bool) (a : Answer) → (is_refused a ≡ true → false ≡ true) → before.allowed + n ≤ (becomes before name n alone a).env.allowed
-allows-all before name n alone (Ok done) told = omega arith
-allows-all before name n alone (Err why) told = let wrong = told refl in cc
+-- a failure isn't Ok
+pub no-told : false ≡ true → ⊥
+no-told told = cc
+
+-- what isn't told isn't refused
+pub unrefused : (a : Answer) → (is_refused a ≡ true → ⊥) → is_refused a ≡ false
+unrefused (Ok done) untold = refl
+unrefused (Err why) untold = absurd (untold refl)
+
+-- what isn't refused allows its cost
+pub becomes-allowed : (before : Environment) (name : Text) (n : ℕ) (alone : Plain → Bool) (a : Answer) → is_refused a ≡ false → (becomes before name n alone a).env.allowed ≡ before.allowed + n
+becomes-allowed before name n alone (Ok done) is = refl
+becomes-allowed before name n alone (Err why) is = cc
 
 -- no more than the cost is allowed
 at-most : (n : ℕ) (a : Answer) → allowed_for n a ≤ n
@@ -51,7 +60,7 @@ module _ (before : Envs) (name : Text) (at : ℕ) (e : Held) (place : env.place_
   -- where memory ran out in a change that isn't refused, its cost was allowed
   pub most-tried : (allowed : ℕ) → allowed ≡ before.allowed + n (entry_of e) → (is_refused (run (entry_of e)) ≡ true → false ≡ true) →
       allowed ≤ (with_entry (env_of before) name (λ x. becomes (env_of before) name (n x) (alone x) (run x))).env.allowed
-  most-tried allowed sum told = rw ((there name before.names at e place is).read, sum) (allows-all (env_of before) name (n (entry_of e)) (alone (entry_of e)) (run (entry_of e)) told)
+  most-tried allowed sum told = rw ((there name before.names at e place is).read, sum) (omega (arith, becomes-allowed (env_of before) name (n (entry_of e)) (alone (entry_of e)) (run (entry_of e)) (unrefused (run (entry_of e)) (λ refused. no-told (told refused)))))
 
   -- nothing was allowed
   pub most-kept : before.allowed ≤ (with_entry (env_of before) name (λ x. becomes (env_of before) name (n x) (alone x) (run x))).env.allowed

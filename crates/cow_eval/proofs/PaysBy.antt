@@ -1,5 +1,5 @@
 -- What a change of one name's value by another's costs, or by itself.
-use Rattle.std.proofs.Common.{◌≡◌, if◌then◌else◌, ℕ, ◌+◌, ◌<◌, ◌++◌, Bool, true, false, not, ◌&&◌, List, length, map, get_or, set, Some, Ok, Err, Result, refl, ap, sym, ◌∙◌, arith}
+use Rattle.std.proofs.Common.{◌≡◌, if◌then◌else◌, ℕ, ◌+◌, ◌<◌, ◌++◌, Bool, true, false, not, ◌&&◌, List, length, map, get_or, set, Some, Err, Result, ap, sym, ◌∙◌, arith}
 use Rattle.std.specs.Prelude.{⊤}
 use Rattle.std.specs.Str.{bytes_eq}
 use Rattle.std.proofs.lemmas.List.{set-append_left}
@@ -11,7 +11,6 @@ use Rattle.cow_model.specs.Purse.{Purse}
 use Rattle.cow_model.specs.Sharing.{own_cost, both_cost, alone_after}
 use Rattle.cow_model.specs.Step.{becomes, with_found, change_by}
 use Rattle.cow_model.specs.declared.outcome.Entry.{Entry}
-use Rattle.cow_model.specs.declared.outcome.Environment.{Environment}
 use Rattle.cow_model.specs.declared.plain.Literal.{Literal}
 use Rattle.cow_model.specs.declared.refusal.Refusal.{Refusal}
 use Rattle.cow_model.specs.declared.value.Plain.{Plain}
@@ -21,7 +20,7 @@ use Rattle.cow_eval.specs.Envs.{Held, Envs, entry_of, env_of, IsBare, Balances}
 use Rattle.cow_eval.specs.Entries.{allowed_for, ChangedBy, Pays, Paid, PaysBy}
 use Rattle.cow_eval.proofs.Apart.{set-seam, seam-read, front-read, one-entry, whole}
 use Rattle.cow_eval.proofs.BareNames.{found-bare, changed-bare}
-use Rattle.cow_eval.proofs.Costs.{without-literals, paid-tried, paid-refused, refused-by}
+use Rattle.cow_eval.proofs.Costs.{becomes-allowed, unrefused, without-literals, paid-tried, paid-refused, refused-by}
 use Rattle.cow_eval.proofs.Places.{there}
 
 module _ (p : Literal → Bool) (run : Plain → Plain → Answer) (at by : ℕ) (before xs ys : List Held) (e e' f : Held) (is_told : Type 0) (h h' : Purse) where
@@ -56,20 +55,6 @@ module _ (p : Literal → Bool) (run : Plain → Plain → Answer) (at by : ℕ)
     told = told;
     pays = pays;
   }
-
--- a failure isn't Ok
-pub no-told : false ≡ true → ⊥
-no-told told = cc
-
--- what isn't told isn't refused
-pub unrefused : (a : Answer) → (is_refused a ≡ true → ⊥) → is_refused a ≡ false
-unrefused (Ok done) untold = refl
-unrefused (Err why) untold = absurd (untold refl)
-
--- what isn't refused allows its cost
-becomes-allowed : (before : Environment) (name : Text) (n : ℕ) (alone : Plain → Bool) (a : Answer) → is_refused a ≡ false → (becomes before name n alone a).env.allowed ≡ before.allowed + n
-becomes-allowed before name n alone (Ok done) is = refl
-becomes-allowed before name n alone (Err why) is = cc
 
 module _ (before : Envs) (name other : Text) (at by : ℕ) (x y : Held) (place : env.place_of name (map entry_of before.names) ≡ Some at) (is : x ≡ get_or before.names at x)
     (place' : env.place_of other (map entry_of before.names) ≡ Some by) (is' : y ≡ get_or before.names by y) (run : Plain → Plain → Answer) where

@@ -5,8 +5,8 @@ use Rattle.cow_model.specs.Changes.{change_by_of}
 use Rattle.cow_model.specs.Operation.{fitting}
 use Rattle.cow_model.specs.Plain.{size}
 use Rattle.cow_model.specs.declared.statement.Statement.{out-Statement}
-use Rattle.cow_eval.proofs.Costs.{always-err, without-literals, paid-refused, refused-by}
-use Rattle.cow_eval.proofs.PaysBy.{no-told, unrefused, allows, itself-bare}
+use Rattle.cow_eval.proofs.Costs.{no-told, unrefused, always-err, without-literals, paid-refused, refused-by}
+use Rattle.cow_eval.proofs.PaysBy.{allows, itself-bare}
 use Rattle.cow_eval.proofs.Results.{always}
 use Rattle.cow_eval.proofs.Apart.{itself-done, itself-refused}
 use Rattle.cow_eval.proofs.both.change_by_itself.Goals as goal

@@ -3,8 +3,8 @@ use Rattle.std.specs.Prelude.{IsOk}
 use Rattle.std.proofs.lemmas.List.{append-nil}
 use Rattle.cow_model.specs.Changes.{change_by_of}
 use Rattle.cow_model.specs.declared.statement.Statement.{out-Statement}
-use Rattle.cow_eval.proofs.Costs.{always-err}
-use Rattle.cow_eval.proofs.PaysBy.{no-told, changed-refused, other-most, other-paid, other-none, other-bare}
+use Rattle.cow_eval.proofs.Costs.{no-told, always-err}
+use Rattle.cow_eval.proofs.PaysBy.{changed-refused, other-most, other-paid, other-none, other-bare}
 use Rattle.cow_eval.proofs.Results.{always}
 use Rattle.cow_eval.proofs.Apart.{apart, other-done, other-refused}
 use Rattle.cow_eval.proofs.both.change_by_other.Goals as goal
