@@ -1,9 +1,9 @@
 -- Names of which no storage holds a counted item, as statements change them.
-use Rattle.std.proofs.Common.{◌≡◌, ℕ, ◌+◌, ◌≤◌, ◌<◌, ◌++◌, Bool, List, [], ◌∷◌, length, map, get_or, set, Some, refl, ap, sym, ◌∙◌, arith, subst}
+use Rattle.std.proofs.Common.{◌≡◌, ℕ, ◌+◌, ◌≤◌, ◌<◌, ◌++◌, Bool, List, [], ◌∷◌, length, map, get_or, set, Some, sym, arith, subst}
 use Rattle.std.specs.List.{remove}
 use Rattle.std.proofs.lemmas.List.{length-set, length-append, length-map}
 use Rattle.std.proofs.lemmas.List.Edits.{length-remove}
-use Rattle.std.proofs.lemmas.List.Elements.{All-push}
+use Rattle.std.proofs.lemmas.List.Elements.{All-push, All-set, All-get_or}
 use Rattle.cow_model.proofs.ListSteps.{All-remove}
 use Rattle.cow_model.specs.Env as env
 use Rattle.cow_model.specs.Lexis.{Text}
@@ -12,8 +12,15 @@ use Rattle.cow_model.specs.declared.plain.Literal.{Literal}
 use Rattle.cow_kinds.specs.Seen.{units}
 use Rattle.cow_eval.specs.Entries.{Pays}
 use Rattle.cow_eval.specs.Envs.{Held, IsBare, Balances, entry_of}
-use Rattle.cow_eval.proofs.Bares.{bare-set, bare-at}
 use Rattle.cow_eval.proofs.Places.{there}
+
+-- a name takes a value without counted items
+pub bare-set : (p : Literal → Bool) (names : List Held) (at : ℕ) (new : Held) → IsBare p names → units p new.seen ≡ 0 → IsBare p (set names at new)
+bare-set p names at new bare none = All-set (λ e. units p e.seen ≡ 0) names at new none bare
+
+-- the value of one of them has none
+pub bare-at : (p : Literal → Bool) (names : List Held) (at : ℕ) (e : Held) → at < length names → e ≡ get_or names at e → IsBare p names → units p e.seen ≡ 0
+bare-at p names at e within is bare = subst (λ x. units p x.seen ≡ 0) (sym is) (All-get_or (λ x. units p x.seen ≡ 0) names at e within bare)
 
 -- one name more
 pub pushed : (p : Literal → Bool) (names : List Held) (e : Held) (h : Purse) → IsBare p names → units p e.seen ≡ 0 → Balances p 1 names (names ++ e ∷ []) h h

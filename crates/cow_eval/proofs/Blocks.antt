@@ -7,26 +7,17 @@ use Rattle.std.proofs.lemmas.List.{at_drop_more, length-take, take-append-le}
 use Rattle.std.proofs.lemmas.List.Elements.{All-get_or}
 use Rattle.cow_model.specs.Lexis.{Text}
 use Rattle.cow_model.specs.Purse.{Purse, RisesWithin}
-use Rattle.cow_model.specs.Run.{run_layer, run_one, env_after, text_from, least_layer, least_from}
+use Rattle.cow_model.specs.Run.{run_one, env_after, text_from, least_layer, least_from}
 use Rattle.cow_model.specs.declared.outcome.Environment.{Environment}
 use Rattle.cow_model.specs.declared.plain.Literal.{Literal}
 use Rattle.cow_model.specs.declared.shape.Shape.{Shape}
 use Rattle.cow_model.specs.declared.statement.Statement.{Statement, out-Statement}
-use Rattle.cow_model.specs.declared.statement.Statement.TheOpen.{Statement-F}
-use Rattle.cow_model.specs.declared.statement.TaskBlock.{TaskBlock}
-use Rattle.cow_model.proofs.ForkAllows.{fork_keeps}
-use Rattle.cow_model.proofs.StepAllows.{step_allows}
+use Rattle.cow_model.proofs.Within.{least_allowed}
 use Rattle.cow_eval.specs.Envs.{Held, Balances}
 
--- a statement never lowers what is allowed
-layer-rises : (env : Environment) (shapes : List Shape) (s : Statement-F Statement TaskBlock) → env.allowed ≤ (run_layer env shapes s).env.allowed
-layer-rises env shapes (Statement-F.Fork l tasks) = fork_keeps env shapes tasks
-layer-rises env shapes s = omega (arith, step_allows env shapes s)
-
--- nor do statements in turn
+-- statements in turn never lower what is allowed
 pub block-rises : (env : Environment) (shapes : List Shape) (ss : List Statement) → env.allowed ≤ (env_after env shapes ss).allowed
-block-rises env shapes [] = omega arith
-block-rises env shapes (s ∷ ss) = omega (arith, layer-rises env shapes (out-Statement s), block-rises (run_one env shapes s).env shapes ss)
+block-rises env shapes ss = omega (arith, least_allowed env shapes ss)
 
 -- the limits of what was copied add up
 pub rises-on : (a b c : ℕ) (h h' h'' : Purse) → RisesWithin a b h h' → RisesWithin b c h' h'' → RisesWithin a c h h''

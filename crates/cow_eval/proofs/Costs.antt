@@ -1,5 +1,5 @@
 -- What a change of the value of a name allows and costs.
-use Rattle.std.proofs.Common.{◌≡◌, ℕ, ◌+◌, ◌≤◌, Bool, true, false, List, map, get_or, set, Some, Ok, Err, Result, refl, ap, sym, ◌∙◌, arith}
+use Rattle.std.proofs.Common.{◌≡◌, ℕ, ◌+◌, ◌≤◌, Bool, true, false, map, get_or, Some, Ok, Err, Result, refl, arith, subst}
 use Rattle.std.specs.Prelude.{OnErr}
 use Rattle.cow_model.specs.Env as env
 use Rattle.cow_model.specs.Lexis.{Text}
@@ -26,10 +26,19 @@ allows : (before : Environment) (name : Text) (n : ℕ) (alone : Plain → Bool)
 allows before name n alone (Ok done) = omega arith
 allows before name n alone (Err why) = omega arith
 
--- one that isn't refused allows its cost
-allows-all : (before : Environment) (name : Text) (n : ℕ) (alone : Plain → Bool) (a : Answer) → (is_refused a ≡ true → false ≡ true) → before.allowed + n ≤ (becomes before name n alone a).env.allowed
-allows-all before name n alone (Ok done) told = omega arith
-allows-all before name n alone (Err why) told = let wrong = told refl in cc
+-- a failure isn't Ok
+pub no-told : false ≡ true → ⊥
+no-told told = cc
+
+-- what isn't told isn't refused
+pub unrefused : (a : Answer) → (is_refused a ≡ true → ⊥) → is_refused a ≡ false
+unrefused (Ok done) untold = refl
+unrefused (Err why) untold = absurd (untold refl)
+
+-- what isn't refused allows its cost
+pub becomes-allowed : (before : Environment) (name : Text) (n : ℕ) (alone : Plain → Bool) (a : Answer) → is_refused a ≡ false → (becomes before name n alone a).env.allowed ≡ before.allowed + n
+becomes-allowed before name n alone (Ok done) is = refl
+becomes-allowed before name n alone (Err why) is = cc
 
 -- no more than the cost is allowed
 at-most : (n : ℕ) (a : Answer) → allowed_for n a ≤ n
@@ -37,20 +46,31 @@ at-most n (Ok done) = omega arith
 at-most n (Err why) = omega arith
 
 -- nothing is allowed for a change that is refused
-none-for : (n : ℕ) (a : Answer) (why : Refusal) → Err why ≡ verdict a → allowed_for n a ≡ 0
-none-for n (Ok done) why is = cc
-none-for n (Err other) why is = refl
+none-for : (n : ℕ) (a : Answer) → is_refused a ≡ true → allowed_for n a ≡ 0
+none-for n (Ok done) refused = cc
+none-for n (Err why) refused = refl
+
+-- a verdict says whether the statement is refused
+pub refused-by : (a : Answer) (why : Refusal) → Err why ≡ verdict a → is_refused a ≡ true
+refused-by (Ok done) why is = cc
+refused-by (Err other) why is = refl
 
 module _ (before : Envs) (name : Text) (at : ℕ) (e : Held) (place : env.place_of name (map entry_of before.names) ≡ Some at) (is : e ≡ get_or before.names at e)
     (n : Entry → ℕ) (alone : Entry → Plain → Bool) (run : Entry → Answer) where
   -- where memory ran out in a change that isn't refused, its cost was allowed
   pub most-tried : (allowed : ℕ) → allowed ≡ before.allowed + n (entry_of e) → (is_refused (run (entry_of e)) ≡ true → false ≡ true) →
       allowed ≤ (with_entry (env_of before) name (λ x. becomes (env_of before) name (n x) (alone x) (run x))).env.allowed
-  most-tried allowed sum told = rw ((there name before.names at e place is).read, sum) (allows-all (env_of before) name (n (entry_of e)) (alone (entry_of e)) (run (entry_of e)) told)
+  most-tried allowed sum told = rw ((there name before.names at e place is).read, sum) (omega (arith, becomes-allowed (env_of before) name (n (entry_of e)) (alone (entry_of e)) (run (entry_of e)) (unrefused (run (entry_of e)) (λ refused. no-told (told refused)))))
 
   -- nothing was allowed
   pub most-kept : before.allowed ≤ (with_entry (env_of before) name (λ x. becomes (env_of before) name (n x) (alone x) (run x))).env.allowed
   most-kept = rw ((there name before.names at e place is).read) (allows (env_of before) name (n (entry_of e)) (alone (entry_of e)) (run (entry_of e)))
+
+-- a change that brings no literals
+pub without-literals : (p : Literal → Bool) (most : ℕ) (brings : Type 0) (e e' : Held) (h h' : Purse) → Pays p most brings e e' h h' → Pays p (0 + most) brings e e' h h'
+without-literals p most brings e e' h h' pays =
+    let same : most ≡ 0 + most = omega arith in
+    subst (λ n. Pays p n brings e e' h h') same pays
 
 module _ (p : Literal → Bool) (literals n : ℕ) (a : Answer) (brings : Type 0) (e e' : Held) (h h' : Purse) (pays : Pays p (literals + allowed_for n a) brings e e' h h') (before after : Envs) where
   -- a change whose cost was allowed
@@ -60,9 +80,13 @@ module _ (p : Literal → Bool) (literals n : ℕ) (a : Answer) (brings : Type 0
       let rises = pays.copied.copied in
       record { copied = record { copied = omega (arith, most, rises, sum); kept = pays.copied.kept }; falls = pays.falls }
 
-  -- a change that is refused
-  pub paid-kept : (why : Refusal) → Err why ≡ verdict a → after.allowed ≡ before.allowed → Paid literals before after h h'
-  paid-kept why is same =
-      let none = none-for n a why is in
+  -- a change that is refused makes no copy but of literals
+  pub paid-refused : is_refused a ≡ true → after.allowed ≡ before.allowed → Paid literals before after h h'
+  paid-refused refused same =
+      let none = none-for n a refused in
       let rises = pays.copied.copied in
       record { copied = record { copied = omega (arith, none, rises, same); kept = pays.copied.kept }; falls = pays.falls }
+
+  -- the same by its verdict
+  pub paid-kept : (why : Refusal) → Err why ≡ verdict a → after.allowed ≡ before.allowed → Paid literals before after h h'
+  paid-kept why is same = paid-refused (refused-by a why is) same

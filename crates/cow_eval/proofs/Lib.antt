@@ -1,6 +1,5 @@
 pub mod Apart
 pub mod BareNames
-pub mod Bares
 pub mod Blocks
 pub mod Costs
 pub mod FirstLine

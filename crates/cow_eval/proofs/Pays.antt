@@ -1,19 +1,18 @@
 -- What a change of an entry costs.
-use Rattle.std.proofs.Common.{◌≡◌, ℕ, ◌+◌, ◌*◌, ◌^◌, ◌≤◌, Bool, true, false, Ok, Err, refl, arith}
-use Rattle.std.proofs.lemmas.Grind.{common_steps}
+use Rattle.std.proofs.Common.{◌≡◌, ℕ, ◌+◌, ◌≤◌, Bool, true, false, Ok, Err, refl, arith}
 use Rattle.cow_model.specs.Flat.{copies}
 use Rattle.cow_model.specs.Operation.{Answer}
 use Rattle.cow_model.specs.Plain.{count, size, max_count}
-use Rattle.cow_model.specs.Purse.{Purse, Moves, RisesWithin, less, more}
+use Rattle.cow_model.specs.Purse.{Purse}
 use Rattle.cow_model.specs.Sharing.{own_cost}
 use Rattle.cow_model.specs.declared.plain.Literal.{Literal}
 use Rattle.cow_kinds.specs.Answers.{is_refused}
-use Rattle.cow_kinds.specs.Seen.{Seen, Costs, shared, units}
+use Rattle.cow_kinds.specs.Seen.{Costs, units}
 use Rattle.cow_kinds.specs.Values.{plain_of}
 use Rattle.cow_kinds.specs.declared.value.Value.{Value}
 use Rattle.cow_kinds.specs.declared.value.Value.TheVariants as value
 use Rattle.cow_eval.specs.Envs.{Held, entry_of}
-use Rattle.cow_eval.specs.Entries.{Pays, allowed_for, most_units}
+use Rattle.cow_eval.specs.Entries.{Pays, allowed_for}
 
 -- an array or a slice has as many atoms as elements
 pub size-small : {T Q : Type 0} (v : Value T Q) → count (plain_of v) ≤ max_count → size (plain_of v) ≤ max_count
@@ -25,32 +24,27 @@ allowed : (a : Answer) (flag : Bool) (m n : ℕ) (A : Type 0) (h h' : Purse) →
 allowed (Ok d) flag m n A h h' shares free most = rw shares most
 allowed (Err why) flag m n A h h' shares free most = rw (free refl).1 (omega arith)
 
--- without counted items the spare stands still over a change between a copy and its end
-still : (u w : ℕ) (h h1 h2 h3 : Purse) (m : ℕ) → u ≡ 0 → w ≡ 0 → h1.spare + 1 ≡ h.spare → Moves (2 * w + u) m h1 h2 → Moves w 0 (more 1 h2) h3 → h3.spare ≡ h.spare
-still u w h h1 h2 h3 m none zero spent moved ended =
-    let a = moved.falls in
-    let b = moved.rises in
-    let d = ended.falls in
-    let e = ended.rises in
-    omega (arith, none, zero, spent, a, b, d, e)
+-- a value that isn't alone is copied whole at most
+at-most-size : (alone : Bool) (m : ℕ) → copies alone m ≤ m
+at-most-size true m = omega arith
+at-most-size false m = omega arith
 
--- what is paid where a second handle was taken before a change and is given back behind it
-pub pays-compared : (p : Literal → Bool) (u n : ℕ) (a : Answer) (before after : Held) (A : Type 0) (h h2 h3 : Purse) → before.flag ≡ false → count before.seen.value ≤ max_count → n ≤ max_count → 1 ≤ h.spare →
-    (is_refused a ≡ true → A × (h2 ≡ less 1 h)) → (units p before.seen ≡ 0 → u ≡ 0 → units p after.seen ≡ 0) → Costs p u n (shared before.seen) (less 1 h) h2 → Moves (units p before.seen) 0 (more 1 h2) h3 → h2.spare + 1 ≤ h3.spare →
-    Pays p (allowed_for (own_cost (entry_of before) + n) a) (u ≡ 0) before after h h3
-pays-compared p u n a before after A h h2 h3 shares small few spare free bare costs ended more_left =
-    let spent : (less 1 h).spare + 1 ≡ h.spare = omega (arith, spare) in
-    let most = allowed a before.flag (size before.seen.value) n A (less 1 h) h2 shares free costs.moved.copied in
-    let no_more = ended.copied in
-    let kept = costs.moved.kept in
-    let kept_too = ended.kept in
+-- what a change of a shared value costs
+pub pays-shared : (p : Literal → Bool) (u n : ℕ) (a : Answer) (before after : Held) (A : Type 0) (h h' : Purse) → before.flag ≡ false → count before.seen.value ≤ max_count → n ≤ max_count →
+    (is_refused a ≡ true → A × (h' ≡ h)) → (units p before.seen ≡ 0 → u ≡ 0 → units p after.seen ≡ 0) → Costs p u n before.seen h h' →
+    Pays p (allowed_for (own_cost (entry_of before) + n) a) (u ≡ 0) before after h h'
+pays-shared p u n a before after A h h' shares small few free bare costs =
+    let size-most = at-most-size before.seen.alone (size before.seen.value) in
+    let rises = costs.moved.copied in
+    let most = allowed a before.flag (size before.seen.value) n A h h' shares free (omega (arith, size-most, rises)) in
     let falls = costs.falls in
     record {
-      copied = record { copied = omega (arith, most, no_more); kept = omega (arith, kept, kept_too) };
-      falls = omega (arith, falls, small, few, spent, more_left);
-      bare = λ none zero. (bare zero none, still u (units p before.seen) h (less 1 h) h2 h3 _ none zero spent costs.moved ended);
+      copied = record { copied = omega (arith, most); kept = costs.moved.kept };
+      falls = omega (arith, falls, small, few);
+      bare = λ none zero. (bare zero none, (let down = costs.moved.falls in let up = costs.moved.rises in omega (arith, none, zero, down, up)));
     }
 
+-- literals are counted whether the change is refused or not
 literals-beside : (a : Answer) (m n : ℕ) → allowed_for (m + n) a ≤ n + allowed_for m a
 literals-beside (Ok d) m n = omega arith
 literals-beside (Err why) m n = omega arith

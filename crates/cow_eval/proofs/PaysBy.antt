@@ -1,27 +1,26 @@
 -- What a change of one name's value by another's costs, or by itself.
-use Rattle.std.proofs.Common.{◌≡◌, if◌then◌else◌, ℕ, ◌+◌, ◌<◌, ◌≤◌, ◌++◌, Bool, true, false, not, ◌&&◌, List, length, map, get_or, set, Some, Ok, Err, Result, refl, ap, sym, ◌∙◌, arith, subst}
-use Rattle.std.specs.Prelude.{⊤, OnErr}
+use Rattle.std.proofs.Common.{◌≡◌, if◌then◌else◌, ℕ, ◌+◌, ◌<◌, ◌++◌, Bool, true, false, not, ◌&&◌, List, length, map, get_or, set, Some, Err, Result, ap, sym, ◌∙◌, arith}
+use Rattle.std.specs.Prelude.{⊤}
 use Rattle.std.specs.Str.{bytes_eq}
-use Rattle.std.proofs.lemmas.List.{set-append_left, length-set, length-map}
+use Rattle.std.proofs.lemmas.List.{set-append_left}
 use Rattle.cow_model.specs.Lexis.{Text}
 use Rattle.cow_model.specs.Env as env
 use Rattle.cow_model.specs.Operation.{Answer, fitting}
 use Rattle.cow_model.specs.Plain.{size}
 use Rattle.cow_model.specs.Purse.{Purse}
 use Rattle.cow_model.specs.Sharing.{own_cost, both_cost, alone_after}
-use Rattle.cow_model.specs.Step.{becomes, with_entry, with_found, change_by}
+use Rattle.cow_model.specs.Step.{becomes, with_found, change_by}
 use Rattle.cow_model.specs.declared.outcome.Entry.{Entry}
-use Rattle.cow_model.specs.declared.outcome.Environment.{Environment}
-use Rattle.cow_model.specs.declared.outcome.Outcome.{Outcome}
 use Rattle.cow_model.specs.declared.plain.Literal.{Literal}
 use Rattle.cow_model.specs.declared.refusal.Refusal.{Refusal}
 use Rattle.cow_model.specs.declared.value.Plain.{Plain}
-use Rattle.cow_kinds.specs.Answers.{verdict, is_refused}
+use Rattle.cow_kinds.specs.Answers.{is_refused}
 use Rattle.cow_kinds.specs.Seen.{units}
 use Rattle.cow_eval.specs.Envs.{Held, Envs, entry_of, env_of, IsBare, Balances}
 use Rattle.cow_eval.specs.Entries.{allowed_for, ChangedBy, Pays, Paid, PaysBy}
 use Rattle.cow_eval.proofs.Apart.{set-seam, seam-read, front-read, one-entry, whole}
-use Rattle.cow_eval.proofs.Bares.{bare-set, bare-at}
+use Rattle.cow_eval.proofs.BareNames.{found-bare, changed-bare}
+use Rattle.cow_eval.proofs.Costs.{becomes-allowed, unrefused, without-literals, paid-tried, paid-refused, refused-by}
 use Rattle.cow_eval.proofs.Places.{there}
 
 module _ (p : Literal → Bool) (run : Plain → Plain → Answer) (at by : ℕ) (before xs ys : List Held) (e e' f : Held) (is_told : Type 0) (h h' : Purse) where
@@ -57,59 +56,6 @@ module _ (p : Literal → Bool) (run : Plain → Plain → Answer) (at by : ℕ)
     pays = pays;
   }
 
--- no more is allowed than asked for
-allowed-most : (n : ℕ) (a : Answer) → allowed_for n a ≤ n
-allowed-most n (Ok done) = omega arith
-allowed-most n (Err why) = omega arith
-
--- and nothing where the statement is refused
-allowed-none : (n : ℕ) (a : Answer) → is_refused a ≡ true → allowed_for n a ≡ 0
-allowed-none n (Ok done) refused = cc
-allowed-none n (Err why) refused = refl
-
--- what holds anyway holds after a failure
-pub err-always : {X E : Type 0} (P : Type 0) (r : Result X E) → P → OnErr r P
-err-always P (Ok x) h = _
-err-always P (Err x) h = h
-
--- a verdict says whether the statement is refused
-pub refused-by : (a : Answer) (why : Refusal) → Err why ≡ verdict a → is_refused a ≡ true
-refused-by (Ok done) why is = cc
-refused-by (Err other) why is = refl
-
--- a failure isn't Ok
-pub no-told : false ≡ true → ⊥
-no-told told = cc
-
--- what isn't told isn't refused
-pub unrefused : (a : Answer) → (is_refused a ≡ true → ⊥) → is_refused a ≡ false
-unrefused (Ok done) untold = refl
-unrefused (Err why) untold = absurd (untold refl)
-
-module _ (p : Literal → Bool) (n : ℕ) (a : Answer) (bare_too : Type 0) (e e' : Held) (h h' : Purse) (pays : Pays p (allowed_for n a) bare_too e e' h h') where
-  -- what a change costs is covered by what is allowed for it
-  pub paid-within : (before after : Envs) → after.allowed ≡ before.allowed + n → Paid 0 before after h h'
-  paid-within before after is =
-      let most = allowed-most n a in
-      record { copied = record { copied = omega (arith, is, most, pays.copied.copied); kept = pays.copied.kept }; falls = pays.falls }
-
-  -- a refused one makes no copy
-  pub paid-none : (before after : Envs) → is_refused a ≡ true → after.allowed ≡ before.allowed → Paid 0 before after h h'
-  paid-none before after refused is =
-      let none = allowed-none n a refused in
-      record { copied = record { copied = omega (arith, is, none, pays.copied.copied); kept = pays.copied.kept }; falls = pays.falls }
-
-  -- units and names balance
-  pub balanced : (names : List Held) (at : ℕ) → at < length names → e ≡ get_or names at e → bare_too → IsBare p names → Balances p 0 names (set names at e') h h'
-  balanced names at within is too bare =
-      let paid = pays.bare too (bare-at p names at e within is bare) in
-      record { bare = bare-set p names at e' bare paid.0; sum = omega (arith, paid.1, length-set names at e') }
-
--- what isn't refused allows its cost
-becomes-allowed : (before : Environment) (name : Text) (n : ℕ) (alone : Plain → Bool) (a : Answer) → is_refused a ≡ false → (becomes before name n alone a).env.allowed ≡ before.allowed + n
-becomes-allowed before name n alone (Ok done) is = refl
-becomes-allowed before name n alone (Err why) is = cc
-
 module _ (before : Envs) (name other : Text) (at by : ℕ) (x y : Held) (place : env.place_of name (map entry_of before.names) ≡ Some at) (is : x ≡ get_or before.names at x)
     (place' : env.place_of other (map entry_of before.names) ≡ Some by) (is' : y ≡ get_or before.names by y) (run : Plain → Plain → Answer) where
   -- a change that isn't refused allows its cost
@@ -122,15 +68,11 @@ module _ (before : Envs) (name other : Text) (at by : ℕ) (x y : Held) (place :
       ∙ (ap (λ o. (with_found (env_of before) o (λ e. becomes (env_of before) name (cost e) (alone e) (fitting (run e.value y.seen.value)))).env.allowed) (there name before.names at x place is).read
       ∙ becomes-allowed (env_of before) name (cost (entry_of x)) (alone (entry_of x)) (fitting (run x.seen.value y.seen.value)) done)
 
--- the place of a name is within the names
-inside : (name : Text) (names : List Held) (at : ℕ) (e : Held) → env.place_of name (map entry_of names) ≡ Some at → e ≡ get_or names at e → at < length names
-inside name names at e place is = omega (arith, (there name names at e place is).within, length-map names entry_of)
-
 module _ (p : Literal → Bool) (before : Envs) (name : Text) (at : ℕ) (e e' : Held) (h h' : Purse) (place : env.place_of name (map entry_of before.names) ≡ Some at) (is : e ≡ get_or before.names at e)
     (n : ℕ) (a : Answer) (pays : Pays p (allowed_for n a) ⊤ e e' h h') where
   -- units and names balance after a change by itself
   pub itself-bare : IsBare p before.names → Balances p 0 before.names (set before.names at e') h h'
-  itself-bare bare = balanced p n a ⊤ e e' h h' pays before.names at (inside name before.names at e place is) is _ bare
+  itself-bare bare = changed-bare p name before.names at e place is bare e' (allowed_for n a) ⊤ h h' pays _
 
 module _ (before : Envs) (name other : Text) (at by : ℕ) (x y : Held) (place : env.place_of name (map entry_of before.names) ≡ Some at) (is : x ≡ get_or before.names at x)
     (place' : env.place_of other (map entry_of before.names) ≡ Some by) (is' : y ≡ get_or before.names by y)
@@ -162,19 +104,23 @@ module _ (p : Literal → Bool) (before : Envs) (name other : Text) (at by : ℕ
   costs : own_cost (entry_of d.old) + size d.other.seen.value ≡ own_cost (entry_of x) + size y.seen.value
   costs = ap (λ e. own_cost e + size d.other.seen.value) old-is ∙ ap (λ (e : Entry). own_cost (entry_of x) + size e.value) other-is
 
+  -- it brings no literals
+  plain-pays : Pays p (0 + allowed_for (own_cost (entry_of d.old) + size d.other.seen.value) (fitting (run d.old.seen.value d.other.seen.value))) (units p d.other.seen ≡ 0) d.old d.new h h'
+  plain-pays = without-literals p (allowed_for (own_cost (entry_of d.old) + size d.other.seen.value) (fitting (run d.old.seen.value d.other.seen.value))) (units p d.other.seen ≡ 0) d.old d.new h h' d.pays
+
   -- a change by another is covered by what is allowed for it
   pub other-paid : (after : Envs) → after.allowed ≡ before.allowed + (own_cost (entry_of x) + size y.seen.value) → Paid 0 before after h h'
-  other-paid after is = paid-within p (own_cost (entry_of d.old) + size d.other.seen.value) (fitting (run d.old.seen.value d.other.seen.value)) (units p d.other.seen ≡ 0) d.old d.new h h' d.pays before after (omega (arith, is, costs))
+  other-paid after is = paid-tried p 0 (own_cost (entry_of d.old) + size d.other.seen.value) (fitting (run d.old.seen.value d.other.seen.value)) (units p d.other.seen ≡ 0) d.old d.new h h' plain-pays before after (omega (arith, is, costs))
 
   -- a refused one makes no copy
   pub other-none : (after : Envs) → is_refused (fitting (run x.seen.value y.seen.value)) ≡ true → after.allowed ≡ before.allowed → Paid 0 before after h h'
-  other-none after refused is = paid-none p (own_cost (entry_of d.old) + size d.other.seen.value) (fitting (run d.old.seen.value d.other.seen.value)) (units p d.other.seen ≡ 0) d.old d.new h h' d.pays before after (ap is_refused answer-is ∙ refused) is
+  other-none after refused is = paid-refused p 0 (own_cost (entry_of d.old) + size d.other.seen.value) (fitting (run d.old.seen.value d.other.seen.value)) (units p d.other.seen ≡ 0) d.old d.new h h' plain-pays before after (ap is_refused answer-is ∙ refused) is
 
   -- units and names balance
   pub other-bare : IsBare p before.names → Balances p 0 before.names names h h'
   other-bare bare =
-      let none = bare-at p before.names by d.other (inside other before.names by d.other place' d.other_is) d.other_is bare in
-      rw d.names (balanced p (own_cost (entry_of d.old) + size d.other.seen.value) (fitting (run d.old.seen.value d.other.seen.value)) (units p d.other.seen ≡ 0) d.old d.new h h' d.pays before.names at (inside name before.names at d.old place d.old_is) d.old_is none bare)
+      let none = found-bare p other before.names by d.other place' d.other_is bare in
+      rw d.names (changed-bare p name before.names at d.old place d.old_is bare d.new (allowed_for (own_cost (entry_of d.old) + size d.other.seen.value) (fitting (run d.old.seen.value d.other.seen.value))) (units p d.other.seen ≡ 0) h h' d.pays none)
 
   -- where a refusal would be told and none is, its cost is allowed
   pub other-most : (is_told → ⊥) → bytes_eq name other ≡ false → (change_by (env_of before) name other true run).env.allowed ≡ before.allowed + (both_cost (entry_of x) + size y.seen.value)

@@ -1,9 +1,8 @@
 -- The statements that are built.
-use Rattle.std.specs.Prelude.{◌≡◌, ℕ, Bool, true, false, List, [], ◌∷◌, All, Option, Some, None, is_some, ⊤, if◌then◌else◌}
+use Rattle.std.specs.Prelude.{◌≡◌, ℕ, Bool, true, false, List, [], ◌∷◌, Option, Some, None, is_some, ⊤, if◌then◌else◌}
 use Rattle.cow_model.specs.Env.{place_of}
 use Rattle.cow_model.specs.declared.outcome.Entry.{Entry}
 use Rattle.cow_model.specs.Sharing.{Layer}
-use Rattle.cow_model.specs.declared.statement.Kind.{Kind}
 use Rattle.cow_model.specs.declared.statement.Kind.TheVariants as kind
 use Rattle.cow_model.specs.declared.statement.Statement.{Statement, out-Statement}
 use Rattle.cow_model.specs.declared.statement.Statement.TheOpen.{Statement-F}

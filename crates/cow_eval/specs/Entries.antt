@@ -1,10 +1,11 @@
 -- What a statement makes of an entry.
-use Rattle.std.specs.Prelude.{◌≡◌, ℕ, ◌+◌, ◌≤◌, ◌^◌, Bool, true, false, List, [], get_or, set, ⊤, Option, Some, None, Result, Ok, Err}
+use Rattle.std.specs.Prelude.{◌≡◌, ℕ, ◌+◌, ◌≤◌, ◌^◌, Bool, true, false, not, List, [], get_or, set, ⊤, Option, Some, None, Result, Ok, Err}
 use Rattle.cow_model.specs.Operation.{Answer}
 use Rattle.cow_model.specs.Plain.{size}
 use Rattle.cow_model.specs.Purse.{Purse, RisesWithin}
 use Rattle.cow_model.specs.Sharing.{alone_after, own_cost}
 use Rattle.cow_model.specs.declared.plain.Literal.{Literal}
+use Rattle.cow_model.specs.declared.memory.NoMemory.{NoMemory}
 use Rattle.cow_model.specs.declared.outcome.Entry.{Entry}
 use Rattle.cow_model.specs.declared.statement.Side.{Side}
 use Rattle.cow_model.specs.declared.statement.Side.TheVariants.{First}
@@ -35,6 +36,12 @@ is_front side value = false
 abbrev pub refusal_in : Answer → Option Refusal
 refusal_in (Ok done) = None
 refusal_in (Err why) = Some why
+
+-- the flag behind a change of a value whose flag was false, where it was told before whether the value stays the same: only what is done sets it
+abbrev pub flag_after : Bool → Result (Result ⊤ Refusal) NoMemory → Bool
+flag_after keeps (Ok (Ok done)) = not keeps
+flag_after keeps (Ok (Err why)) = false
+flag_after keeps (Err failure) = false
 
 -- a change of the value at one place by that at another: no other entry changes, the verdict is the definitions', and nothing is printed
 pub record ChangedBy (run : Plain → Plain → Answer) (at by : ℕ) (before after : List Held) (told : Result ⊤ Refusal) : Type 0 where

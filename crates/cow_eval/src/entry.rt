@@ -19,7 +19,7 @@ ghost use Rattle.cow_kinds.specs.Values.{seen, plain_of, is_alone};
 ghost use Rattle.cow_eval.specs.Envs.{entry_of};
 ghost use Rattle.cow_eval.specs.Entries.{entry_after, refusal_or_full, allowed_for, Pays, max_stop};
 
-use crate::values::{is_front, pop, same, self_refusal, size, slice_refusal, stop};
+use crate::values::{flag_after, is_front, pop, self_refusal, size, slice_refusal, stop};
 use cow_cell::{Holder, Stock};
 use cow_kinds::{Element, Value};
 use cow_model::{Literal, Name, NoMemory, Refusal, Side, Statement};
@@ -224,8 +224,8 @@ impl<T: Element<Q>, Q: Stock> Entry<T, Q> {
         mem::replace(&mut self.value, value).end(h);
     }
 
-    /// Does a statement that changes the value, and appends what it prints. Where the flag is false a second
-    /// handle keeps the old value to compare with. A refusal changes nothing.
+    /// Does a statement that changes the value, and appends what it prints. Where the flag is false, whether the
+    /// value stays the same is told before. A refusal changes nothing.
     pub fn change(
         &mut self,
         alloc: Global,
@@ -247,10 +247,9 @@ impl<T: Element<Q>, Q: Stock> Entry<T, Q> {
         if self.alone {
             return self.value.change(alloc, statement, text, h);
         }
-        let before = self.value.copy(h);
+        let keeps = self.value.keeps(statement);
         let result = self.value.change(alloc, statement, text, h);
-        self.alone = !same(&before, &self.value);
-        before.end(h);
+        self.alone = flag_after(keeps, &result);
         result
     }
 
@@ -275,10 +274,9 @@ impl<T: Element<Q>, Q: Stock> Entry<T, Q> {
         if is_front(side, &self.value) {
             return pop(&mut self.value, side, text, h);
         }
-        let before = self.value.copy(h);
+        let keeps = self.value.keeps_pop(side);
         let result = pop(&mut self.value, side, text, h);
-        self.alone = !same(&before, &self.value);
-        before.end(h);
+        self.alone = flag_after(keeps, &result);
         result
     }
 
@@ -300,10 +298,9 @@ impl<T: Element<Q>, Q: Stock> Entry<T, Q> {
         if self.alone {
             return self.value.change_by(statement, other, h);
         }
-        let before = self.value.copy(h);
+        let keeps = self.value.keeps_by(statement, other);
         let result = self.value.change_by(statement, other, h);
-        self.alone = !same(&before, &self.value);
-        before.end(h);
+        self.alone = flag_after(keeps, &result);
         result
     }
 

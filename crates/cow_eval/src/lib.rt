@@ -6,8 +6,8 @@
 //! text that they append, the environment that they leave, and [`Env::allowed`]. [`first_unbuilt`] tells the
 //! first statement that no crate below can run yet.
 //!
-//! `let N = M` and slices make a second handle and copy no element. A change of a value whose flag is false
-//! keeps a second handle of the old value, compares the two, and sets the flag where they differ. `extend N M`
+//! `let N = M` and slices make a second handle and copy no element. Before a change of a value whose flag is false
+//! `cow_kinds` tells whether the value stays the same, and where it doesn't the flag is set. `extend N M`
 //! reads M's value where it stands, so M's flag stays; `extend N N` lends a second handle for the statement, and
 //! leaves the flag false.
 #![tactic(auto)]

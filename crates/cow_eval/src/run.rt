@@ -22,9 +22,6 @@ use cow_kinds::Element;
 use cow_model::{NoMemory, Statement};
 use std::alloc::Global;
 
-/// The most literal atoms of a statement: as many as a value has elements.
-const MAX_ATOMS: usize = 65_536;
-
 /// The spare that a statement asks for.
 const LEAST_SPARE: u64 = 0x100_0000_0000;
 
@@ -209,8 +206,10 @@ fn act<T: Element<Q>, Q: Stock>(
 /// a change is linear in the elements at most.
 ///
 /// Errors: `NoMemory` alone. The text is then as it was, and of the environment nothing is said but that it
-/// can be ended. It stands also for a statement of more than 65,536 literals, and for numbers of copies past
-/// 64 bits, which no script comes near.
+/// can be ended. It stands also for numbers of copies past 64 bits, which no script comes near.
+///
+/// The conditions `texts` (no literal text of more than 255 bytes) and `few` (at most 65,536 literals) hold of
+/// every statement of a script.
 pub fn run_statement<T: Element<Q>, Q: Stock>(
     alloc: Global,
     statement: &Statement,
@@ -220,6 +219,7 @@ pub fn run_statement<T: Element<Q>, Q: Stock>(
 ) -> Result<(), NoMemory>
     requires built { is_built (out-Statement statement.now) ≡ true }
     requires texts { FitsTexts (out-Statement statement.now) }
+    requires few { sharing.literals (out-Statement statement.now) ≤ max_count }
     requires spare { 2 ^ 40 ≤ h.old.spare }
     ensures there { is_free (out-Statement statement.now) ≡ true → AreThere (env_of env.old).names (out-Statement statement.now) → IsOk result }
     ensures env { OnOk result (env_of env.new ≡ (spec.step (env_of env.old) [] (out-Statement statement.now)).env) }
@@ -232,9 +232,6 @@ pub fn run_statement<T: Element<Q>, Q: Stock>(
     ensures bare { IsBare T.is_counted env.old.names → IsBareLayer T.is_counted (out-Statement statement.now) → OnOk result (Balances T.is_counted 0 env.old.names env.new.names h.old h.new) }
 {
     let atoms = literals(statement);
-    if atoms > MAX_ATOMS {
-        return Err(NoMemory);
-    }
     env.allowed = sum(env.allowed, atoms)?;
     act(alloc, statement, env, h, text)
 }
@@ -249,6 +246,7 @@ fn run_one<T: Element<Q>, Q: Stock>(
 ) -> Result<(), NoMemory>
     requires built { IsBuilt statement.now }
     requires texts { FitsTexts (out-Statement statement.now) }
+    requires few { sharing.literals (out-Statement statement.now) ≤ max_count }
     ensures env { OnOk result (env_of env.new ≡ (run.run_one (env_of env.old) [] statement.now).env) }
     ensures text { OnOk result (text.new.items ≡ text.old.items ++ (run.run_one (env_of env.old) [] statement.now).text) }
     ensures err { OnErr result (text.new.items ≡ text.old.items) }
@@ -271,6 +269,9 @@ fn run_one<T: Element<Q>, Q: Stock>(
 ///
 /// Errors: `NoMemory` alone. The text then grew by a front of what `Ok` would have printed. It stands also
 /// for a spare of fewer than 2^40 units before a statement, which no script comes near.
+///
+/// The conditions `texts` (no literal text of more than 255 bytes) and `few` (at most 65,536 literals) hold of
+/// every statement of a script.
 pub fn run_block<T: Element<Q>, Q: Stock>(
     alloc: Global,
     block: &[Statement],
@@ -280,6 +281,7 @@ pub fn run_block<T: Element<Q>, Q: Stock>(
 ) -> Result<(), NoMemory>
     requires built { All IsBuilt block.now }
     requires texts { All (λ s. FitsTexts (out-Statement s)) block.now }
+    requires few { All (λ s. sharing.literals (out-Statement s) ≤ max_count) block.now }
     ensures env { OnOk result (env_of env.new ≡ run.env_after (env_of env.old) [] block.now) }
     ensures text { OnOk result (text.new.items ≡ text.old.items ++ run.text_from (env_of env.old) [] block.now) }
     ensures err { OnErr result (GrowsWithin text.old.items text.new.items (run.text_from (env_of env.old) [] block.now)) }

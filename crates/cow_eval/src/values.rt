@@ -12,7 +12,7 @@ ghost use Rattle.cow_kinds.specs.Answers.{verdict, is_refused, value_after, repl
 ghost use Rattle.cow_eval.specs.Entries.{refusal_or_full, refusal_in};
 ghost use Rattle.cow_eval.specs.Entries as entries;
 
-use cow_array::{Array, ArraySlice};
+use cow_array::Array;
 use cow_cell::{Holder, Stock};
 use cow_kinds::{Element, Value};
 use cow_model::{NoMemory, Refusal, Side, Statement};
@@ -38,31 +38,6 @@ pub fn stop<T: Element<Q>, Q: Stock>(value: &Value<T, Q>) -> usize
     match value {
         Value::Array(a) => a.count(),
         Value::Slice(s) => s.stop(),
-    }
-}
-
-// Whether two arrays are one.
-fn same_arrays<T: Element<Q>, Q: Stock>(a: &Array<T, Q>, b: &Array<T, Q>) -> bool
-    ensures { result ≡ plain.same_items a.now.value b.now.value }
-{
-    a.equals(b)
-}
-
-// Whether two slices have the same elements.
-fn same_slices<T: Element<Q>, Q: Stock>(s: &ArraySlice<T, Q>, t: &ArraySlice<T, Q>) -> bool
-    ensures { result ≡ plain.same_items s.now.value.items t.now.value.items }
-{
-    s.equals(t)
-}
-
-/// Whether two values are one: of one kind, and with the same contents. Linear in their elements.
-pub fn same<T: Element<Q>, Q: Stock>(value: &Value<T, Q>, other: &Value<T, Q>) -> bool
-    ensures { result ≡ plain.same_plain (plain_of value.now) (plain_of other.now) }
-{
-    match (value, other) {
-        (Value::Array(a), Value::Array(b)) => same_arrays(a, b),
-        (Value::Slice(s), Value::Slice(t)) => s.start() == t.start() && same_slices(s, t),
-        _ => false,
     }
 }
 
@@ -124,6 +99,16 @@ pub fn pop<T: Element<Q>, Q: Stock>(
     ensures changed { entries.is_front side (plain_of value.old) ≡ false → (plain_of value.new ≡ plain_of value.old) ⊎ (is_alone value.new ≡ true) }
 {
     value.pop(side, text, h)
+}
+
+/// The flag behind a change of a value whose flag was false, of which `keeps` was told before.
+pub fn flag_after(keeps: bool, done: &Result<Result<(), Refusal>, NoMemory>) -> bool
+    ensures { result ≡ entries.flag_after keeps done.now }
+{
+    match done {
+        Ok(Ok(())) => !keeps,
+        Ok(Err(_)) | Err(_) => false,
+    }
 }
 
 // Why an array isn't extended by itself.

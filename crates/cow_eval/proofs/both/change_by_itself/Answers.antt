@@ -1,11 +1,12 @@
-use Rattle.std.proofs.Common.{◌++◌, ◌+◌, true, refl, ap, sym, ◌∙◌, arith}
+use Rattle.std.proofs.Common.{◌+◌, true, refl, sym, ◌∙◌, arith}
 use Rattle.std.proofs.lemmas.List.{append-nil}
 use Rattle.std.proofs.lemmas.Slice.Eq.{bytes_eq-Decides}
 use Rattle.cow_model.specs.Changes.{change_by_of}
 use Rattle.cow_model.specs.Operation.{fitting}
 use Rattle.cow_model.specs.Plain.{size}
 use Rattle.cow_model.specs.declared.statement.Statement.{out-Statement}
-use Rattle.cow_eval.proofs.PaysBy.{err-always, no-told, unrefused, refused-by, allows, itself-bare, paid-none}
+use Rattle.cow_eval.proofs.Costs.{no-told, unrefused, always-err, without-literals, paid-refused, refused-by}
+use Rattle.cow_eval.proofs.PaysBy.{allows, itself-bare}
 use Rattle.cow_eval.proofs.Results.{always}
 use Rattle.cow_eval.proofs.Apart.{itself-done, itself-refused}
 use Rattle.cow_eval.proofs.both.change_by_itself.Goals as goal
@@ -40,7 +41,7 @@ returns-in_err-change_by_itself-clause-most g c =
     let done = unrefused (fitting (change_by_of (out-Statement c.args.statement.now) c.index_mut-entry.result.now.seen.value c.index_mut-entry.result.now.seen.value)) (λ refused. no-told (c.in_err-change_by_itself.ensures.told refused)) in
     let place = sym found ∙ c.in-Some.is in
     let allowed = allows (record { names = c.env.inside.names.items; room = c.env.inside.room; allowed = c.env.inside.allowed }) c.args.name.now c.args.name.now c.in-Some.at c.in-Some.at c.index_mut-entry.result.now c.index_mut-entry.result.now place c.index_mut-entry.ensures.value place c.index_mut-entry.ensures.value (change_by_of (out-Statement c.args.statement.now)) true ((bytes_eq-Decides c.args.name.now c.args.name.now).1 refl) done in
-    err-always _ c.from_residual-in_err-change_by_itself.result (rw (← c.env.view_is, allowed, c.in_ok-env-inside.ensures.value, c.both_cost.ensures.cost, c.size.ensures.cost) (omega arith))
+    always-err _ c.from_residual-in_err-change_by_itself.result (rw (← c.env.view_is, allowed, c.in_ok-env-inside.ensures.value, c.both_cost.ensures.cost, c.size.ensures.cost) (omega arith))
 
 pub returns-in-Ok-clause-bare : goal.returns-in-Ok-clause-bare
 returns-in-Ok-clause-bare g c =
@@ -50,7 +51,7 @@ returns-in-Ok-clause-bare g c =
 pub returns-in-Err-clause-paid : goal.returns-in-Err-clause-paid
 returns-in-Err-clause-paid g c =
     let refused = refused-by (fitting (change_by_of (out-Statement c.args.statement.now) c.index_mut-entry.result.now.seen.value c.index_mut-entry.result.now.seen.value)) c.in-Err.why (sym c.in-Err.is ∙ c.in_ok-change_by_itself.ensures.answer) in
-    rw (← c.env.view_is) (paid-none g.T.Item.is_counted (size c.index_mut-entry.result.now.seen.value + size c.index_mut-entry.result.now.seen.value) (fitting (change_by_of (out-Statement c.args.statement.now) c.index_mut-entry.result.now.seen.value c.index_mut-entry.result.now.seen.value)) _ c.index_mut-entry.result.now c.change_by_itself.new.self c.args.h.now c.change_by_itself.new.h c.change_by_itself.ensures.pays (record { names = c.env.inside.names.items; room = c.env.inside.room; allowed = c.env.inside.allowed }) _ refused refl)
+    rw (← c.env.view_is) (paid-refused g.T.Item.is_counted 0 (size c.index_mut-entry.result.now.seen.value + size c.index_mut-entry.result.now.seen.value) (fitting (change_by_of (out-Statement c.args.statement.now) c.index_mut-entry.result.now.seen.value c.index_mut-entry.result.now.seen.value)) _ c.index_mut-entry.result.now c.change_by_itself.new.self c.args.h.now c.change_by_itself.new.h (without-literals g.T.Item.is_counted _ _ _ _ _ _ c.change_by_itself.ensures.pays) (record { names = c.env.inside.names.items; room = c.env.inside.room; allowed = c.env.inside.allowed }) _ refused refl)
 
 pub returns-in-Err-clause-bare : goal.returns-in-Err-clause-bare
 returns-in-Err-clause-bare g c =

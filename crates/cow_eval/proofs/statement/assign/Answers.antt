@@ -3,8 +3,7 @@ use Rattle.std.proofs.lemmas.List.{append-nil}
 use Rattle.cow_kinds.specs.Seen.{units}
 use Rattle.cow_kinds.specs.Values.{seen, plain_of}
 use Rattle.cow_eval.specs.Envs.{entry_of}
-use Rattle.cow_eval.proofs.BareNames.{found-bare, shared-bare}
-use Rattle.cow_eval.proofs.Bares.{bare-set}
+use Rattle.cow_eval.proofs.BareNames.{bare-set, found-bare, shared-bare}
 use Rattle.cow_eval.proofs.Results.{always, on-ok}
 use Rattle.cow_eval.proofs.Places.{still-there}
 use Rattle.cow_eval.proofs.Steps.{assigned}

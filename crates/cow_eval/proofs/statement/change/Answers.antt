@@ -1,4 +1,4 @@
-use Rattle.std.proofs.Common.{◌≡◌, ◌+◌, ◌++◌, set, refl, ap, sym, ◌∙◌}
+use Rattle.std.proofs.Common.{◌≡◌, ◌+◌, set, refl, ap, sym, ◌∙◌}
 use Rattle.cow_model.specs.Changes.{change_of}
 use Rattle.cow_model.specs.Operation.{fitting}
 use Rattle.cow_model.specs.Sharing.{literals, own_cost, alone_after}
@@ -8,7 +8,7 @@ use Rattle.cow_eval.specs.Entries.{allowed_for}
 use Rattle.cow_eval.specs.Envs.{entry_of}
 use Rattle.cow_eval.proofs.BareNames.{changed-bare}
 use Rattle.cow_eval.proofs.Costs.{always-err, most-tried, most-kept, paid-tried, paid-kept}
-use Rattle.cow_eval.proofs.Results.{always, on-ok, on-err}
+use Rattle.cow_eval.proofs.Results.{always}
 use Rattle.cow_eval.proofs.Steps.{changed, kept, unsaid}
 use Rattle.cow_eval.proofs.statement.change.Goals as goal
 

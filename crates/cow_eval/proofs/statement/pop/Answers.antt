@@ -1,4 +1,4 @@
-use Rattle.std.proofs.Common.{◌+◌, ◌++◌, refl, ap, sym, ◌∙◌}
+use Rattle.std.proofs.Common.{◌+◌, ap, sym, ◌∙◌}
 use Rattle.std.specs.Prelude.{⊤}
 use Rattle.cow_model.specs.Operation.{pop}
 use Rattle.cow_model.specs.Sharing.{pop_cost, alone_after_pop}
@@ -6,7 +6,7 @@ use Rattle.cow_eval.specs.Entries.{allowed_for}
 use Rattle.cow_eval.specs.Envs.{entry_of}
 use Rattle.cow_eval.proofs.BareNames.{changed-bare}
 use Rattle.cow_eval.proofs.Costs.{always-err, most-tried}
-use Rattle.cow_eval.proofs.Results.{always, on-ok, on-err}
+use Rattle.cow_eval.proofs.Results.{always}
 use Rattle.cow_eval.proofs.Steps.{changed, kept, unsaid}
 use Rattle.cow_eval.proofs.statement.pop.Goals as goal
 

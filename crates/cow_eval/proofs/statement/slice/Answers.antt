@@ -6,8 +6,7 @@ use Rattle.cow_kinds.specs.Seen.{units}
 use Rattle.cow_kinds.specs.Values.{plain_of}
 use Rattle.cow_eval.specs.Envs.{entry_of}
 use Rattle.cow_eval.proofs.Places.{same-there}
-use Rattle.cow_eval.proofs.BareNames.{found-bare, shared-bare}
-use Rattle.cow_eval.proofs.Bares.{bare-set}
+use Rattle.cow_eval.proofs.BareNames.{bare-set, found-bare, shared-bare}
 use Rattle.cow_eval.proofs.Results.{always, on-ok}
 use Rattle.cow_eval.proofs.Steps.{no-room, uncut, cut}
 use Rattle.cow_eval.proofs.statement.slice.Goals as goal

@@ -1,4 +1,3 @@
-use Rattle.std.proofs.Common.{refl, sym, ap}
 use Rattle.cow_model.specs.Operation as operation
 use Rattle.cow_kinds.specs.Values.{seen, plain_of}
 use Rattle.cow_eval.proofs.Flags.{pop-fits, pop-kept, pop-changed, small-after, first-of}
