@@ -205,8 +205,12 @@ fn act<T: Element<Q>, Q: Stock>(
 /// A statement looks at each of the at most 64 names. `let N = M`, a slice and `drop` are one step beside that;
 /// a change is linear in the elements at most.
 ///
-/// Errors: `NoMemory` alone. The text is then as it was, and of the environment nothing is said but that it
-/// can be ended. It stands also for numbers of copies past 64 bits, which no script comes near.
+/// No more is copied than what is allowed rises by, and a `let` that isn't refused copies its literals. Where
+/// no text is held or brought in, spare and the number of names add up to as much as before.
+///
+/// Errors: `NoMemory` alone. The text is then as it was. Of the environment nothing is said but that it can be
+/// ended, and that what it allows covers the copies and is no more than `Ok` would have left. It stands also for
+/// numbers of copies past 64 bits, and for a slice that stops at 2^31, which no script comes near.
 ///
 /// The conditions `texts` (no literal text of more than 255 bytes) and `few` (at most 65,536 literals) hold of
 /// every statement of a script.
@@ -266,6 +270,8 @@ fn run_one<T: Element<Q>, Q: Stock>(
 }
 
 /// Runs statements in turn: appends what they print to `text`, and leaves the environment after them.
+///
+/// Copies and units move as by `run_statement`, added up.
 ///
 /// Errors: `NoMemory` alone. The text then grew by a front of what `Ok` would have printed. It stands also
 /// for a spare of fewer than 2^40 units before a statement, which no script comes near.

@@ -7,7 +7,6 @@ use Rattle.cow_model.specs.Env.{start}
 use Rattle.cow_model.specs.Literals.{is_text}
 use Rattle.cow_model.specs.Purse.{Purse, RisesBy, RisesWithin, whole}
 use Rattle.cow_model.specs.Run.{run_one, env_after, bound, least_layer, least_from, least}
-use Rattle.cow_model.specs.declared.outcome.Environment.{Environment}
 use Rattle.cow_model.specs.declared.statement.Statement.{Statement, out-Statement}
 use Rattle.cow_model.proofs.Within.{least_allowed, least_within_bound}
 use Rattle.cow_eval.specs.Entries.{most_units}
@@ -52,9 +51,9 @@ counts_more ss rest s env env' h h' c is within by falls bare =
       least = rises_on c.done atoms h.copied h'.copied c.least by;
       spare = omega (arith, c.spare, falls);
       bare = λ script.
-        let settled = c.bare script in
-        let balance = bare settled.names (All-head (λ x. IsBareLayer is_text (out-Statement x)) s rest settled.plain) in
-        record { plain = All-tail (λ x. IsBareLayer is_text (out-Statement x)) s rest settled.plain; names = balance.bare; sum = omega (arith, settled.sum, balance.sum) };
+          let settled = c.bare script in
+          let balance = bare settled.names (All-head (λ x. IsBareLayer is_text (out-Statement x)) s rest settled.plain) in
+          record { plain = All-tail (λ x. IsBareLayer is_text (out-Statement x)) s rest settled.plain; names = balance.bare; sum = omega (arith, settled.sum, balance.sum) };
     }
 
 -- a statement that ran out of memory, or was not written

@@ -1,5 +1,5 @@
 -- What every script has that was read.
-use Rattle.std.proofs.Common.{◌≡◌, ℕ, ◌≤◌, List, length, arith, Ok}
+use Rattle.std.proofs.Common.{◌≡◌, ◌≤◌, List, length, arith, Ok}
 use Rattle.cow_model.specs.Lexis.{Text}
 use Rattle.cow_model.specs.Parse.{script_of}
 use Rattle.cow_model.specs.declared.statement.Statement.{Statement}

@@ -1,5 +1,5 @@
 -- A built statement is no fork: it is run by its step.
-use Rattle.std.proofs.Common.{◌≡◌, List, [], refl, true}
+use Rattle.std.proofs.Common.{◌≡◌, [], refl, true}
 use Rattle.cow_model.specs.Run.{run_layer}
 use Rattle.cow_model.specs.Sharing.{Layer}
 use Rattle.cow_model.specs.Step.{step}

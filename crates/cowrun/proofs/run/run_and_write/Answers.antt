@@ -1,4 +1,4 @@
-use Rattle.std.proofs.Common.{◌≡◌, ◌++◌, ap, sym, ◌∙◌, subst, []}
+use Rattle.std.proofs.Common.{◌++◌, ap, sym, ◌∙◌, subst, []}
 use Rattle.std.proofs.lemmas.Result.{err_from_is_err_and}
 use Rattle.cow_model.specs.Run.{run_one}
 use Rattle.cow_model.specs.declared.statement.Statement.{out-Statement}

@@ -1,6 +1,3 @@
-use Rattle.std.proofs.Common.{◌≡◌, Ok, ap, sym, ◌∙◌, subst, arith}
-use Rattle.cow_model.specs.Parse.{script_of}
-use Rattle.cowrun.specs.Runs.{IsRead}
 use Rattle.cowrun.proofs.Read.{is_read}
 use Rattle.cowrun.proofs.run.run_bytes.Goals as goal
 

@@ -1,4 +1,4 @@
-use Rattle.std.proofs.Common.{◌++◌, ◌≤◌, ◌^◌, ◌-◌, [], ◌∙◌, sym, rules}
+use Rattle.std.proofs.Common.{◌≤◌, ◌^◌, ◌-◌, [], ◌∙◌, sym, rules}
 use Rattle.std.proofs.lemmas.Result.{err_from_is_err_and}
 use Rattle.cow_model.specs.Run.{text_of, bound}
 use Rattle.cowrun.specs.Lines.{census_if}

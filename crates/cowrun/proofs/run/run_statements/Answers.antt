@@ -1,6 +1,6 @@
-use Rattle.std.proofs.Common.{◌≡◌, ◌+◌, ◌-◌, ◌*◌, ◌^◌, ◌≤◌, ◌∷◌, length, arith, rules, drop, sym, ◌∙◌, ap, subst, []}
+use Rattle.std.proofs.Common.{◌+◌, arith, rules, drop, subst, []}
 use Rattle.std.proofs.lemmas.Result.{err_from_is_err_and}
-use Rattle.cow_model.specs.Run.{run_one, text_from, text_of}
+use Rattle.cow_model.specs.Run.{text_of}
 use Rattle.cow_eval.specs.Envs.{env_of}
 use Rattle.cowrun.proofs.Counts.{Counts, counts_more, counts_err, counts_end, nothing_left, spare_enough}
 use Rattle.cowrun.proofs.Ran.{Stands, stands_more, front_more, next_rest}
