@@ -10,7 +10,7 @@ use Rattle.cow_model.specs.Lexis.{Text}
 use Rattle.cow_model.specs.Purse.{Purse, less}
 use Rattle.cow_model.specs.declared.plain.Literal.{Literal}
 use Rattle.cow_kinds.specs.Seen.{units}
-use Rattle.cow_eval.specs.Entries.{Pays}
+use Rattle.cow_eval.specs.Entries.{Spends}
 use Rattle.cow_eval.specs.Envs.{Held, IsBare, Balances, entry_of}
 use Rattle.cow_eval.proofs.Places.{there}
 
@@ -38,9 +38,9 @@ module _ (p : Literal → Bool) (name : Text) (names : List Held) (at : ℕ) (e 
   found-bare = bare-at p names at e within is bare
 
   -- a name of which the value changed
-  pub changed-bare : (e' : Held) (n : ℕ) (brings : Type 0) (h h' : Purse) → Pays p n brings e e' h h' → brings → Balances p 0 names (set names at e') h h'
-  changed-bare e' n brings h h' pays none =
-      let did = pays.bare none found-bare in
+  pub changed-bare : (e' : Held) (n : ℕ) (brings : Type 0) (h h' : Purse) → Spends p n brings e e' h h' → brings → Balances p 0 names (set names at e') h h'
+  changed-bare e' n brings h h' spends none =
+      let did = spends.bare none found-bare in
       let long = length-set names at e' in
       record { bare = bare-set p names at e' bare did.0; sum = omega (arith, long, did.1) }
 

@@ -12,7 +12,7 @@ use Rattle.cow_model.specs.declared.plain.Literal.{Literal}
 use Rattle.cow_model.specs.declared.refusal.Refusal.{Refusal}
 use Rattle.cow_model.specs.declared.value.Plain.{Plain}
 use Rattle.cow_kinds.specs.Answers.{verdict, is_refused}
-use Rattle.cow_eval.specs.Entries.{Pays, Paid, allowed_for}
+use Rattle.cow_eval.specs.Entries.{Spends, Paid, allowed_for}
 use Rattle.cow_eval.specs.Envs.{Held, Envs, entry_of, env_of}
 use Rattle.cow_eval.proofs.Places.{there}
 
@@ -67,25 +67,25 @@ module _ (before : Envs) (name : Text) (at : ℕ) (e : Held) (place : env.place_
   most-kept = rw ((there name before.names at e place is).read) (allows (env_of before) name (n (entry_of e)) (alone (entry_of e)) (run (entry_of e)))
 
 -- a change that brings no literals
-pub without-literals : (p : Literal → Bool) (most : ℕ) (brings : Type 0) (e e' : Held) (h h' : Purse) → Pays p most brings e e' h h' → Pays p (0 + most) brings e e' h h'
-without-literals p most brings e e' h h' pays =
+pub without-literals : (p : Literal → Bool) (most : ℕ) (brings : Type 0) (e e' : Held) (h h' : Purse) → Spends p most brings e e' h h' → Spends p (0 + most) brings e e' h h'
+without-literals p most brings e e' h h' spends =
     let same : most ≡ 0 + most = omega arith in
-    subst (λ n. Pays p n brings e e' h h') same pays
+    subst (λ n. Spends p n brings e e' h h') same spends
 
-module _ (p : Literal → Bool) (literals n : ℕ) (a : Answer) (brings : Type 0) (e e' : Held) (h h' : Purse) (pays : Pays p (literals + allowed_for n a) brings e e' h h') (before after : Envs) where
+module _ (p : Literal → Bool) (literals n : ℕ) (a : Answer) (brings : Type 0) (e e' : Held) (h h' : Purse) (spends : Spends p (literals + allowed_for n a) brings e e' h h') (before after : Envs) where
   -- a change whose cost was allowed
   pub paid-tried : after.allowed ≡ before.allowed + n → Paid literals before after h h'
   paid-tried sum =
       let most = at-most n a in
-      let rises = pays.copied.copied in
-      record { copied = record { copied = omega (arith, most, rises, sum); kept = pays.copied.kept }; falls = pays.falls }
+      let rises = spends.copied.copied in
+      record { copied = record { copied = omega (arith, most, rises, sum); kept = spends.copied.kept }; falls = spends.falls }
 
   -- a change that is refused makes no copy but of literals
   pub paid-refused : is_refused a ≡ true → after.allowed ≡ before.allowed → Paid literals before after h h'
   paid-refused refused same =
       let none = none-for n a refused in
-      let rises = pays.copied.copied in
-      record { copied = record { copied = omega (arith, none, rises, same); kept = pays.copied.kept }; falls = pays.falls }
+      let rises = spends.copied.copied in
+      record { copied = record { copied = omega (arith, none, rises, same); kept = spends.copied.kept }; falls = spends.falls }
 
   -- the same by its verdict
   pub paid-kept : (why : Refusal) → Err why ≡ verdict a → after.allowed ≡ before.allowed → Paid literals before after h h'

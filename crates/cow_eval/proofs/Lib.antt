@@ -5,8 +5,8 @@ pub mod Costs
 pub mod FirstLine
 pub mod Flags
 pub mod Growth
-pub mod Pays
-pub mod PaysBy
 pub mod Places
 pub mod Results
+pub mod Spends
+pub mod SpendsBy
 pub mod Steps

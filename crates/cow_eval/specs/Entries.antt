@@ -69,7 +69,7 @@ abbrev pub most_units : ℕ
 most_units = 2 ^ 22
 
 -- what a change of an entry costs that may make n copies: no more are made, and few units are used; none where neither it nor what it brings in holds a counted item, and then it holds none afterwards
-pub record Pays (is_counted : Literal → Bool) (n : ℕ) (brings_none : Type 0) (before after : Held) (h h' : Purse) : Type 0 where
+pub record Spends (is_counted : Literal → Bool) (n : ℕ) (brings_none : Type 0) (before after : Held) (h h' : Purse) : Type 0 where
   pub copied : RisesWithin 0 n h h'
   pub falls : h.spare ≤ h'.spare + most_units
   pub bare : brings_none → units is_counted before.seen ≡ 0 → (units is_counted after.seen ≡ 0) × (h'.spare ≡ h.spare)
@@ -80,7 +80,7 @@ pub record Paid (literals : ℕ) (before after : Envs) (h h' : Purse) : Type 0 w
   pub falls : h.spare ≤ h'.spare + most_units
 
 -- what a change of the value at one place by that at another costs, as `run` says it; a refused one is told
-pub record PaysBy (is_counted : Literal → Bool) (run : Plain → Plain → Answer) (at by : ℕ) (before after : List Held) (is_told : Type 0) (h h' : Purse) : Type 0 where
+pub record SpendsBy (is_counted : Literal → Bool) (run : Plain → Plain → Answer) (at by : ℕ) (before after : List Held) (is_told : Type 0) (h h' : Purse) : Type 0 where
   pub old : Held
   pub other : Held
   pub new : Held
@@ -88,4 +88,4 @@ pub record PaysBy (is_counted : Literal → Bool) (run : Plain → Plain → Ans
   pub other_is : other ≡ get_or before by other
   pub names : after ≡ set before at new
   pub told : is_refused (run old.seen.value other.seen.value) ≡ true → is_told
-  pub pays : Pays is_counted (allowed_for (own_cost (entry_of old) + size other.seen.value) (run old.seen.value other.seen.value)) (units is_counted other.seen ≡ 0) old new h h'
+  pub spends : Spends is_counted (allowed_for (own_cost (entry_of old) + size other.seen.value) (run old.seen.value other.seen.value)) (units is_counted other.seen ≡ 0) old new h h'

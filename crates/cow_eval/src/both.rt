@@ -5,7 +5,7 @@ ghost use Rattle.cow_model.specs.Changes.{change_by_of};
 ghost use Rattle.cow_model.specs.Operation.{fitting};
 ghost use Rattle.cow_model.specs.Step as spec;
 ghost use Rattle.cow_model.specs.declared.statement.Statement.{out-Statement};
-ghost use Rattle.cow_eval.specs.Entries.{ChangedBy, Paid, PaysBy};
+ghost use Rattle.cow_eval.specs.Entries.{ChangedBy, Paid, SpendsBy};
 ghost use Rattle.cow_eval.specs.Envs.{env_of, IsBare, Balances};
 
 use crate::entry::Entry;
@@ -28,7 +28,7 @@ fn change_by_later<T: Element<Q>, Q: Stock>(
     requires within { by < length names.old }
     requires spare { 2 ^ 39 ≤ h.old.spare }
     ensures changed { IfOk result (λ r. ChangedBy (λ v w. fitting (change_by_of (out-Statement statement.now) v w)) at by names.old names.new r) }
-    ensures pays { PaysBy T.is_counted (λ v w. fitting (change_by_of (out-Statement statement.now) v w)) at by names.old names.new (IsOk result) h.old h.new }
+    ensures spends { SpendsBy T.is_counted (λ v w. fitting (change_by_of (out-Statement statement.now) v w)) at by names.old names.new (IsOk result) h.old h.new }
 {
     let (front, back) = names.split_at_mut(by);
     front[at].change_by_entry(statement, &back[0], h)
@@ -46,7 +46,7 @@ fn change_by_earlier<T: Element<Q>, Q: Stock>(
     requires within { at < length names.old }
     requires spare { 2 ^ 39 ≤ h.old.spare }
     ensures changed { IfOk result (λ r. ChangedBy (λ v w. fitting (change_by_of (out-Statement statement.now) v w)) at by names.old names.new r) }
-    ensures pays { PaysBy T.is_counted (λ v w. fitting (change_by_of (out-Statement statement.now) v w)) at by names.old names.new (IsOk result) h.old h.new }
+    ensures spends { SpendsBy T.is_counted (λ v w. fitting (change_by_of (out-Statement statement.now) v w)) at by names.old names.new (IsOk result) h.old h.new }
 {
     let (front, back) = names.split_at_mut(at);
     back[0].change_by_entry(statement, &front[by], h)
@@ -65,7 +65,7 @@ fn change_by_place<T: Element<Q>, Q: Stock>(
     requires by { by < length names.old.items }
     requires spare { 2 ^ 39 ≤ h.old.spare }
     ensures changed { IfOk result (λ r. ChangedBy (λ v w. fitting (change_by_of (out-Statement statement.now) v w)) at by names.old.items names.new.items r) }
-    ensures pays { PaysBy T.is_counted (λ v w. fitting (change_by_of (out-Statement statement.now) v w)) at by names.old.items names.new.items (IsOk result) h.old h.new }
+    ensures spends { SpendsBy T.is_counted (λ v w. fitting (change_by_of (out-Statement statement.now) v w)) at by names.old.items names.new.items (IsOk result) h.old h.new }
 {
     if at < by {
         change_by_later(names, at, by, statement, h)

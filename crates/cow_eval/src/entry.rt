@@ -17,7 +17,7 @@ ghost use Rattle.cow_model.specs.Atoms.{FitsTexts, counted_in};
 ghost use Rattle.cow_kinds.specs.Seen.{shared, stop, units};
 ghost use Rattle.cow_kinds.specs.Values.{seen, plain_of, is_alone};
 ghost use Rattle.cow_eval.specs.Envs.{entry_of};
-ghost use Rattle.cow_eval.specs.Entries.{entry_after, refusal_or_full, allowed_for, Pays, max_stop};
+ghost use Rattle.cow_eval.specs.Entries.{entry_after, refusal_or_full, allowed_for, Spends, max_stop};
 
 use crate::values::{flag_after, is_front, pop, self_refusal, size, slice_refusal, stop};
 use cow_cell::{Holder, Stock};
@@ -242,7 +242,7 @@ impl<T: Element<Q>, Q: Stock> Entry<T, Q> {
         ensures reply { OnOk result (text.new.items ≡ text.old.items ++ reply_of (fitting (change_of (out-Statement statement.now) self.old.seen.value))) }
         ensures refused { OnErr result (text.new.items ≡ text.old.items) }
         ensures told { is_refused (fitting (change_of (out-Statement statement.now) self.old.seen.value)) ≡ true → IsOk result }
-        ensures pays { Pays T.is_counted (literals (out-Statement statement.now) + allowed_for (sharing.own_cost (entry_of self.old)) (fitting (change_of (out-Statement statement.now) self.old.seen.value))) (counted_in T.is_counted (out-Statement statement.now) ≡ 0) self.old self.new h.old h.new }
+        ensures spends { Spends T.is_counted (literals (out-Statement statement.now) + allowed_for (sharing.own_cost (entry_of self.old)) (fitting (change_of (out-Statement statement.now) self.old.seen.value))) (counted_in T.is_counted (out-Statement statement.now) ≡ 0) self.old self.new h.old h.new }
     {
         if self.alone {
             return self.value.change(alloc, statement, text, h);
@@ -266,7 +266,7 @@ impl<T: Element<Q>, Q: Stock> Entry<T, Q> {
         ensures reply { OnOk result (text.new.items ≡ text.old.items ++ reply_of (spec.pop side self.old.seen.value)) }
         ensures refused { OnErr result (text.new.items ≡ text.old.items) }
         ensures told { is_refused (spec.pop side self.old.seen.value) ≡ true → IsOk result }
-        ensures pays { Pays T.is_counted (allowed_for (sharing.pop_cost side (entry_of self.old)) (spec.pop side self.old.seen.value)) ⊤ self.old self.new h.old h.new }
+        ensures spends { Spends T.is_counted (allowed_for (sharing.pop_cost side (entry_of self.old)) (spec.pop side self.old.seen.value)) ⊤ self.old self.new h.old h.new }
     {
         if self.alone {
             return pop(&mut self.value, side, text, h);
@@ -293,7 +293,7 @@ impl<T: Element<Q>, Q: Stock> Entry<T, Q> {
         ensures entry { OnOk result (entry_of self.new ≡ entry_after (sharing.alone_after (entry_of self.old)) (entry_of self.old) (fitting (change_by_of (out-Statement statement.now) self.old.seen.value (plain_of other.now)))) }
         ensures silent { reply_of (fitting (change_by_of (out-Statement statement.now) self.old.seen.value (plain_of other.now))) ≡ [] }
         ensures told { is_refused (fitting (change_by_of (out-Statement statement.now) self.old.seen.value (plain_of other.now))) ≡ true → IsOk result }
-        ensures pays { Pays T.is_counted (allowed_for (sharing.own_cost (entry_of self.old) + plain.size (plain_of other.now)) (fitting (change_by_of (out-Statement statement.now) self.old.seen.value (plain_of other.now)))) (units T.is_counted (seen other.now) ≡ 0) self.old self.new h.old h.new }
+        ensures spends { Spends T.is_counted (allowed_for (sharing.own_cost (entry_of self.old) + plain.size (plain_of other.now)) (fitting (change_by_of (out-Statement statement.now) self.old.seen.value (plain_of other.now)))) (units T.is_counted (seen other.now) ≡ 0) self.old self.new h.old h.new }
     {
         if self.alone {
             return self.value.change_by(statement, other, h);
@@ -316,7 +316,7 @@ impl<T: Element<Q>, Q: Stock> Entry<T, Q> {
         ensures entry { OnOk result (entry_of self.new ≡ entry_after (sharing.alone_after (entry_of self.old)) (entry_of self.old) (fitting (change_by_of (out-Statement statement.now) self.old.seen.value other.now.seen.value))) }
         ensures silent { reply_of (fitting (change_by_of (out-Statement statement.now) self.old.seen.value other.now.seen.value)) ≡ [] }
         ensures told { is_refused (fitting (change_by_of (out-Statement statement.now) self.old.seen.value other.now.seen.value)) ≡ true → IsOk result }
-        ensures pays { Pays T.is_counted (allowed_for (sharing.own_cost (entry_of self.old) + plain.size other.now.seen.value) (fitting (change_by_of (out-Statement statement.now) self.old.seen.value other.now.seen.value))) (units T.is_counted other.now.seen ≡ 0) self.old self.new h.old h.new }
+        ensures spends { Spends T.is_counted (allowed_for (sharing.own_cost (entry_of self.old) + plain.size other.now.seen.value) (fitting (change_by_of (out-Statement statement.now) self.old.seen.value other.now.seen.value))) (units T.is_counted other.now.seen ≡ 0) self.old self.new h.old h.new }
     {
         self.change_by(statement, &other.value, h)
     }
@@ -333,7 +333,7 @@ impl<T: Element<Q>, Q: Stock> Entry<T, Q> {
         ensures entry { OnOk result (entry_of self.new ≡ entry_after (λ value. false) (entry_of self.old) (fitting (change_by_of (out-Statement statement.now) self.old.seen.value self.old.seen.value))) }
         ensures silent { OnOk result (reply_of (fitting (change_by_of (out-Statement statement.now) self.old.seen.value self.old.seen.value)) ≡ []) }
         ensures told { is_refused (fitting (change_by_of (out-Statement statement.now) self.old.seen.value self.old.seen.value)) ≡ true → IsOk result }
-        ensures pays { Pays T.is_counted (allowed_for (plain.size self.old.seen.value + plain.size self.old.seen.value) (fitting (change_by_of (out-Statement statement.now) self.old.seen.value self.old.seen.value))) ⊤ self.old self.new h.old h.new }
+        ensures spends { Spends T.is_counted (allowed_for (plain.size self.old.seen.value + plain.size self.old.seen.value) (fitting (change_by_of (out-Statement statement.now) self.old.seen.value self.old.seen.value))) ⊤ self.old self.new h.old h.new }
     {
         if let Some(why) = self_refusal(statement, &self.value) {
             return Ok(Err(why));

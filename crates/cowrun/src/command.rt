@@ -40,10 +40,12 @@ fn options(words: &[&str]) -> Option<bool>
 /// - `NotYet` comes exactly where they are a script with a line that isn't built, with the first such line.
 /// - `NoMemory` is free to come.
 /// - `Ok` says that the source was read to its end, that the sink took exactly what the run writes, and that
-///   all units are back. `Leak` says the first two, and how many units are back.
+///   all units are back: no storage that the run made is held any more. `Leak` says the first two, and how many
+///   units are back. It never comes of a script without texts.
 ///
-/// The holder afterwards has the number of items that were copied, which the census tells. On `Usage`, `Script`
-/// and `NotYet` one line is written; a write that fails there leaves the status as it is.
+/// The holder afterwards has the number of items that were copied, which the census tells: at most what the
+/// sharing rule allows the script (`bound`), and after `Ok` and `Leak` at least what it has to make (`least`). On
+/// `Usage`, `Script` and `NotYet` one line is written; a write that fails there leaves the status as it is.
 pub fn cowrun<Q: Stock, S: Source, K: Sink>(
     alloc: Global,
     words: &[&str],

@@ -6,7 +6,7 @@ use Rattle.cow_model.specs.Operation.{fitting}
 use Rattle.cow_model.specs.Plain.{size}
 use Rattle.cow_model.specs.declared.statement.Statement.{out-Statement}
 use Rattle.cow_eval.proofs.Costs.{no-told, unrefused, always-err, without-literals, paid-refused, refused-by}
-use Rattle.cow_eval.proofs.PaysBy.{allows, itself-bare}
+use Rattle.cow_eval.proofs.SpendsBy.{allows, itself-bare}
 use Rattle.cow_eval.proofs.Results.{always}
 use Rattle.cow_eval.proofs.Apart.{itself-done, itself-refused}
 use Rattle.cow_eval.proofs.both.change_by_itself.Goals as goal
@@ -46,14 +46,14 @@ returns-in_err-change_by_itself-clause-most g c =
 pub returns-in-Ok-clause-bare : goal.returns-in-Ok-clause-bare
 returns-in-Ok-clause-bare g c =
     let found = rw c.deref.ensures.value at c.find.ensures in
-    rw (← c.env.view_is) (itself-bare g.T.Item.is_counted (record { names = c.env.inside.names.items; room = c.env.inside.room; allowed = c.env.inside.allowed }) c.args.name.now c.in-Some.at c.index_mut-entry.result.now c.change_by_itself.new.self c.args.h.now c.change_by_itself.new.h (sym found ∙ c.in-Some.is) c.index_mut-entry.ensures.value (size c.index_mut-entry.result.now.seen.value + size c.index_mut-entry.result.now.seen.value) (fitting (change_by_of (out-Statement c.args.statement.now) c.index_mut-entry.result.now.seen.value c.index_mut-entry.result.now.seen.value)) c.change_by_itself.ensures.pays)
+    rw (← c.env.view_is) (itself-bare g.T.Item.is_counted (record { names = c.env.inside.names.items; room = c.env.inside.room; allowed = c.env.inside.allowed }) c.args.name.now c.in-Some.at c.index_mut-entry.result.now c.change_by_itself.new.self c.args.h.now c.change_by_itself.new.h (sym found ∙ c.in-Some.is) c.index_mut-entry.ensures.value (size c.index_mut-entry.result.now.seen.value + size c.index_mut-entry.result.now.seen.value) (fitting (change_by_of (out-Statement c.args.statement.now) c.index_mut-entry.result.now.seen.value c.index_mut-entry.result.now.seen.value)) c.change_by_itself.ensures.spends)
 
 pub returns-in-Err-clause-paid : goal.returns-in-Err-clause-paid
 returns-in-Err-clause-paid g c =
     let refused = refused-by (fitting (change_by_of (out-Statement c.args.statement.now) c.index_mut-entry.result.now.seen.value c.index_mut-entry.result.now.seen.value)) c.in-Err.why (sym c.in-Err.is ∙ c.in_ok-change_by_itself.ensures.answer) in
-    rw (← c.env.view_is) (paid-refused g.T.Item.is_counted 0 (size c.index_mut-entry.result.now.seen.value + size c.index_mut-entry.result.now.seen.value) (fitting (change_by_of (out-Statement c.args.statement.now) c.index_mut-entry.result.now.seen.value c.index_mut-entry.result.now.seen.value)) _ c.index_mut-entry.result.now c.change_by_itself.new.self c.args.h.now c.change_by_itself.new.h (without-literals g.T.Item.is_counted _ _ _ _ _ _ c.change_by_itself.ensures.pays) (record { names = c.env.inside.names.items; room = c.env.inside.room; allowed = c.env.inside.allowed }) _ refused refl)
+    rw (← c.env.view_is) (paid-refused g.T.Item.is_counted 0 (size c.index_mut-entry.result.now.seen.value + size c.index_mut-entry.result.now.seen.value) (fitting (change_by_of (out-Statement c.args.statement.now) c.index_mut-entry.result.now.seen.value c.index_mut-entry.result.now.seen.value)) _ c.index_mut-entry.result.now c.change_by_itself.new.self c.args.h.now c.change_by_itself.new.h (without-literals g.T.Item.is_counted _ _ _ _ _ _ c.change_by_itself.ensures.spends) (record { names = c.env.inside.names.items; room = c.env.inside.room; allowed = c.env.inside.allowed }) _ refused refl)
 
 pub returns-in-Err-clause-bare : goal.returns-in-Err-clause-bare
 returns-in-Err-clause-bare g c =
     let found = rw c.deref.ensures.value at c.find.ensures in
-    rw (← c.env.view_is) (λ bare. always _ c.refuse-in-Err.result (itself-bare g.T.Item.is_counted (record { names = c.env.inside.names.items; room = c.env.inside.room; allowed = c.env.inside.allowed }) c.args.name.now c.in-Some.at c.index_mut-entry.result.now c.change_by_itself.new.self c.args.h.now c.change_by_itself.new.h (sym found ∙ c.in-Some.is) c.index_mut-entry.ensures.value (size c.index_mut-entry.result.now.seen.value + size c.index_mut-entry.result.now.seen.value) (fitting (change_by_of (out-Statement c.args.statement.now) c.index_mut-entry.result.now.seen.value c.index_mut-entry.result.now.seen.value)) c.change_by_itself.ensures.pays bare))
+    rw (← c.env.view_is) (λ bare. always _ c.refuse-in-Err.result (itself-bare g.T.Item.is_counted (record { names = c.env.inside.names.items; room = c.env.inside.room; allowed = c.env.inside.allowed }) c.args.name.now c.in-Some.at c.index_mut-entry.result.now c.change_by_itself.new.self c.args.h.now c.change_by_itself.new.h (sym found ∙ c.in-Some.is) c.index_mut-entry.ensures.value (size c.index_mut-entry.result.now.seen.value + size c.index_mut-entry.result.now.seen.value) (fitting (change_by_of (out-Statement c.args.statement.now) c.index_mut-entry.result.now.seen.value c.index_mut-entry.result.now.seen.value)) c.change_by_itself.ensures.spends bare))

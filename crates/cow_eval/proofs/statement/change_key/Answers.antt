@@ -60,24 +60,24 @@ returns-in-Err-clause-most g c =
 
 pub returns-in_err-change-clause-paid : goal.returns-in_err-change-clause-paid
 returns-in_err-change-clause-paid g c =
-    rw (← c.env.view_is) (paid-tried g.T.Item.is_counted (literals (out-Statement c.args.statement.now)) (own_cost (entry_of c.index_mut-entry.result.now)) (fitting (change_of (out-Statement c.args.statement.now) c.index_mut-entry.result.now.seen.value)) (counted_in g.T.Item.is_counted (out-Statement c.args.statement.now) ≡ 0) c.index_mut-entry.result.now c.change.new.self c.args.h.now c.change.new.h c.change.ensures.pays (record { names = c.env.inside.names.items; room = c.env.inside.room; allowed = c.env.inside.allowed }) (record { names = set c.env.inside.names.items c.in-Some.at c.change.new.self; room = c.env.inside.room; allowed = c.in_ok-env-inside.field-0 }) (c.in_ok-env-inside.ensures.value ∙ ap (λ k. c.env.inside.allowed + k) c.key_cost.ensures.flat))
+    rw (← c.env.view_is) (paid-tried g.T.Item.is_counted (literals (out-Statement c.args.statement.now)) (own_cost (entry_of c.index_mut-entry.result.now)) (fitting (change_of (out-Statement c.args.statement.now) c.index_mut-entry.result.now.seen.value)) (counted_in g.T.Item.is_counted (out-Statement c.args.statement.now) ≡ 0) c.index_mut-entry.result.now c.change.new.self c.args.h.now c.change.new.h c.change.ensures.spends (record { names = c.env.inside.names.items; room = c.env.inside.room; allowed = c.env.inside.allowed }) (record { names = set c.env.inside.names.items c.in-Some.at c.change.new.self; room = c.env.inside.room; allowed = c.in_ok-env-inside.field-0 }) (c.in_ok-env-inside.ensures.value ∙ ap (λ k. c.env.inside.allowed + k) c.key_cost.ensures.flat))
 
 pub returns-in-Ok-clause-paid : goal.returns-in-Ok-clause-paid
 returns-in-Ok-clause-paid g c =
-    rw (← c.env.view_is) (paid-tried g.T.Item.is_counted (literals (out-Statement c.args.statement.now)) (own_cost (entry_of c.index_mut-entry.result.now)) (fitting (change_of (out-Statement c.args.statement.now) c.index_mut-entry.result.now.seen.value)) (counted_in g.T.Item.is_counted (out-Statement c.args.statement.now) ≡ 0) c.index_mut-entry.result.now c.change.new.self c.args.h.now c.change.new.h c.change.ensures.pays (record { names = c.env.inside.names.items; room = c.env.inside.room; allowed = c.env.inside.allowed }) (record { names = set c.env.inside.names.items c.in-Some.at c.change.new.self; room = c.env.inside.room; allowed = c.in_ok-env-inside.field-0 }) (c.in_ok-env-inside.ensures.value ∙ ap (λ k. c.env.inside.allowed + k) c.key_cost.ensures.flat))
+    rw (← c.env.view_is) (paid-tried g.T.Item.is_counted (literals (out-Statement c.args.statement.now)) (own_cost (entry_of c.index_mut-entry.result.now)) (fitting (change_of (out-Statement c.args.statement.now) c.index_mut-entry.result.now.seen.value)) (counted_in g.T.Item.is_counted (out-Statement c.args.statement.now) ≡ 0) c.index_mut-entry.result.now c.change.new.self c.args.h.now c.change.new.h c.change.ensures.spends (record { names = c.env.inside.names.items; room = c.env.inside.room; allowed = c.env.inside.allowed }) (record { names = set c.env.inside.names.items c.in-Some.at c.change.new.self; room = c.env.inside.room; allowed = c.in_ok-env-inside.field-0 }) (c.in_ok-env-inside.ensures.value ∙ ap (λ k. c.env.inside.allowed + k) c.key_cost.ensures.flat))
 
 pub returns-in-Err-clause-paid : goal.returns-in-Err-clause-paid
 returns-in-Err-clause-paid g c =
-    rw (← c.env.view_is) (paid-kept g.T.Item.is_counted (literals (out-Statement c.args.statement.now)) (own_cost (entry_of c.index_mut-entry.result.now)) (fitting (change_of (out-Statement c.args.statement.now) c.index_mut-entry.result.now.seen.value)) (counted_in g.T.Item.is_counted (out-Statement c.args.statement.now) ≡ 0) c.index_mut-entry.result.now c.change.new.self c.args.h.now c.change.new.h c.change.ensures.pays (record { names = c.env.inside.names.items; room = c.env.inside.room; allowed = c.env.inside.allowed }) (record { names = set c.env.inside.names.items c.in-Some.at c.change.new.self; room = c.env.inside.room; allowed = c.env.inside.allowed }) c.in-Err.why (sym c.in-Err.is ∙ c.in_ok-change.ensures.answer) refl)
+    rw (← c.env.view_is) (paid-kept g.T.Item.is_counted (literals (out-Statement c.args.statement.now)) (own_cost (entry_of c.index_mut-entry.result.now)) (fitting (change_of (out-Statement c.args.statement.now) c.index_mut-entry.result.now.seen.value)) (counted_in g.T.Item.is_counted (out-Statement c.args.statement.now) ≡ 0) c.index_mut-entry.result.now c.change.new.self c.args.h.now c.change.new.h c.change.ensures.spends (record { names = c.env.inside.names.items; room = c.env.inside.room; allowed = c.env.inside.allowed }) (record { names = set c.env.inside.names.items c.in-Some.at c.change.new.self; room = c.env.inside.room; allowed = c.env.inside.allowed }) c.in-Err.why (sym c.in-Err.is ∙ c.in_ok-change.ensures.answer) refl)
 
 pub returns-in-Ok-clause-bare : goal.returns-in-Ok-clause-bare
 returns-in-Ok-clause-bare g c = λ bare none.
     let found = rw c.deref.ensures.value at c.find.ensures in
     let names = rw (← c.env.view_is) at bare in
-    rw (← c.env.view_is) (changed-bare g.T.Item.is_counted c.args.name.now c.env.inside.names.items c.in-Some.at c.index_mut-entry.result.now (sym found ∙ c.in-Some.is) c.index_mut-entry.ensures.value names c.change.new.self ((literals (out-Statement c.args.statement.now)) + allowed_for (own_cost (entry_of c.index_mut-entry.result.now)) (fitting (change_of (out-Statement c.args.statement.now) c.index_mut-entry.result.now.seen.value))) (counted_in g.T.Item.is_counted (out-Statement c.args.statement.now) ≡ 0) c.args.h.now c.change.new.h c.change.ensures.pays none)
+    rw (← c.env.view_is) (changed-bare g.T.Item.is_counted c.args.name.now c.env.inside.names.items c.in-Some.at c.index_mut-entry.result.now (sym found ∙ c.in-Some.is) c.index_mut-entry.ensures.value names c.change.new.self ((literals (out-Statement c.args.statement.now)) + allowed_for (own_cost (entry_of c.index_mut-entry.result.now)) (fitting (change_of (out-Statement c.args.statement.now) c.index_mut-entry.result.now.seen.value))) (counted_in g.T.Item.is_counted (out-Statement c.args.statement.now) ≡ 0) c.args.h.now c.change.new.h c.change.ensures.spends none)
 
 pub returns-in-Err-clause-bare : goal.returns-in-Err-clause-bare
 returns-in-Err-clause-bare g c = λ bare none.
     let found = rw c.deref.ensures.value at c.find.ensures in
     let names = rw (← c.env.view_is) at bare in
-    always _ c.refuse-in-Err.result (rw (← c.env.view_is) (changed-bare g.T.Item.is_counted c.args.name.now c.env.inside.names.items c.in-Some.at c.index_mut-entry.result.now (sym found ∙ c.in-Some.is) c.index_mut-entry.ensures.value names c.change.new.self ((literals (out-Statement c.args.statement.now)) + allowed_for (own_cost (entry_of c.index_mut-entry.result.now)) (fitting (change_of (out-Statement c.args.statement.now) c.index_mut-entry.result.now.seen.value))) (counted_in g.T.Item.is_counted (out-Statement c.args.statement.now) ≡ 0) c.args.h.now c.change.new.h c.change.ensures.pays none))
+    always _ c.refuse-in-Err.result (rw (← c.env.view_is) (changed-bare g.T.Item.is_counted c.args.name.now c.env.inside.names.items c.in-Some.at c.index_mut-entry.result.now (sym found ∙ c.in-Some.is) c.index_mut-entry.ensures.value names c.change.new.self ((literals (out-Statement c.args.statement.now)) + allowed_for (own_cost (entry_of c.index_mut-entry.result.now)) (fitting (change_of (out-Statement c.args.statement.now) c.index_mut-entry.result.now.seen.value))) (counted_in g.T.Item.is_counted (out-Statement c.args.statement.now) ≡ 0) c.args.h.now c.change.new.h c.change.ensures.spends none))

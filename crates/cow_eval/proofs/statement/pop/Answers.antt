@@ -54,10 +54,10 @@ pub returns-in-Ok-clause-bare : goal.returns-in-Ok-clause-bare
 returns-in-Ok-clause-bare g c = λ bare.
     let found = rw c.deref.ensures.value at c.find.ensures in
     let names = rw (← c.env.view_is) at bare in
-    rw (← c.env.view_is) (changed-bare g.T.Item.is_counted c.args.name.now c.env.inside.names.items c.in-Some.at c.index_mut-entry.result.now (sym found ∙ c.in-Some.is) c.index_mut-entry.ensures.value names c.pop.new.self (allowed_for (pop_cost c.args.side (entry_of c.index_mut-entry.result.now)) (pop c.args.side c.index_mut-entry.result.now.seen.value)) ⊤ c.args.h.now c.pop.new.h c.pop.ensures.pays _)
+    rw (← c.env.view_is) (changed-bare g.T.Item.is_counted c.args.name.now c.env.inside.names.items c.in-Some.at c.index_mut-entry.result.now (sym found ∙ c.in-Some.is) c.index_mut-entry.ensures.value names c.pop.new.self (allowed_for (pop_cost c.args.side (entry_of c.index_mut-entry.result.now)) (pop c.args.side c.index_mut-entry.result.now.seen.value)) ⊤ c.args.h.now c.pop.new.h c.pop.ensures.spends _)
 
 pub returns-in-Err-clause-bare : goal.returns-in-Err-clause-bare
 returns-in-Err-clause-bare g c = λ bare.
     let found = rw c.deref.ensures.value at c.find.ensures in
     let names = rw (← c.env.view_is) at bare in
-    always _ c.refuse-in-Err.result (rw (← c.env.view_is) (changed-bare g.T.Item.is_counted c.args.name.now c.env.inside.names.items c.in-Some.at c.index_mut-entry.result.now (sym found ∙ c.in-Some.is) c.index_mut-entry.ensures.value names c.pop.new.self (allowed_for (pop_cost c.args.side (entry_of c.index_mut-entry.result.now)) (pop c.args.side c.index_mut-entry.result.now.seen.value)) ⊤ c.args.h.now c.pop.new.h c.pop.ensures.pays _))
+    always _ c.refuse-in-Err.result (rw (← c.env.view_is) (changed-bare g.T.Item.is_counted c.args.name.now c.env.inside.names.items c.in-Some.at c.index_mut-entry.result.now (sym found ∙ c.in-Some.is) c.index_mut-entry.ensures.value names c.pop.new.self (allowed_for (pop_cost c.args.side (entry_of c.index_mut-entry.result.now)) (pop c.args.side c.index_mut-entry.result.now.seen.value)) ⊤ c.args.h.now c.pop.new.h c.pop.ensures.spends _))

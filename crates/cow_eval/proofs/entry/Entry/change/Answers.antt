@@ -8,7 +8,7 @@ use Rattle.cow_model.specs.declared.statement.Statement.{out-Statement}
 use Rattle.cow_kinds.specs.Values.{seen, plain_of}
 use Rattle.cow_eval.specs.Envs.{Held, entry_of}
 use Rattle.cow_eval.proofs.Flags.{small-after, first-of, entry-alone, entry-told, alone-told}
-use Rattle.cow_eval.proofs.Pays.{pays-shared, pays-literals}
+use Rattle.cow_eval.proofs.Spends.{spends-shared, spends-literals}
 use Rattle.cow_eval.proofs.entry.Entry.change.Goals as goal
 
 pub invariant_of-self : goal.invariant_of-self
@@ -41,8 +41,8 @@ returns-clause-entry g c =
     let e : Entry = record { name = c.self.inside.name; value = plain_of v; alone = c.self.inside.alone } in
     rw (← c.self.view_is, c.flag_after-self-inside.ensures) (entry-told c.keeps-keeps.result r.result e (plain_of r.new.self) (fitting (change_of (out-Statement c.args.statement.now) (plain_of v))) c.if-self.false c.keeps-keeps.ensures r.ensures.answer r.ensures.value)
 
-pub returns-clause-pays : goal.returns-clause-pays
-returns-clause-pays g c =
+pub returns-clause-spends : goal.returns-clause-spends
+returns-clause-spends g c =
     let p = g.T.Item.is_counted in
     let statement = out-Statement c.args.statement.now in
     let v = c.self.inside.value in
@@ -50,5 +50,5 @@ returns-clause-pays g c =
     let a = fitting (change_of statement (plain_of v)) in
     let e : Held = record { name = c.self.inside.name; seen = seen v; flag = c.self.inside.alone } in
     let e' : Held = record { name = e.name; seen = seen r.new.self; flag = c.flag_after-self-inside.result } in
-    rw (← c.self.view_is) (pays-literals p (own_cost (entry_of e)) (literals statement) a _ e e' c.args.h.now r.new.h
-    (pays-shared p (counted_in p statement) (literals statement) a e e' (IsOk r.result) c.args.h.now r.new.h c.if-self.false c.self.invariant.small c.requires.few r.ensures.free r.ensures.bare r.ensures.paid))
+    rw (← c.self.view_is) (spends-literals p (own_cost (entry_of e)) (literals statement) a _ e e' c.args.h.now r.new.h
+    (spends-shared p (counted_in p statement) (literals statement) a e e' (IsOk r.result) c.args.h.now r.new.h c.if-self.false c.self.invariant.small c.requires.few r.ensures.free r.ensures.bare r.ensures.paid))

@@ -12,7 +12,7 @@ use Rattle.cow_kinds.specs.Values.{plain_of}
 use Rattle.cow_kinds.specs.declared.value.Value.{Value}
 use Rattle.cow_kinds.specs.declared.value.Value.TheVariants as value
 use Rattle.cow_eval.specs.Envs.{Held, entry_of}
-use Rattle.cow_eval.specs.Entries.{Pays, allowed_for}
+use Rattle.cow_eval.specs.Entries.{Spends, allowed_for}
 
 -- an array or a slice has as many atoms as elements
 pub size-small : {T Q : Type 0} (v : Value T Q) → count (plain_of v) ≤ max_count → size (plain_of v) ≤ max_count
@@ -30,10 +30,10 @@ at-most-size true m = omega arith
 at-most-size false m = omega arith
 
 -- what a change of a shared value costs
-pub pays-shared : (p : Literal → Bool) (u n : ℕ) (a : Answer) (before after : Held) (A : Type 0) (h h' : Purse) → before.flag ≡ false → count before.seen.value ≤ max_count → n ≤ max_count →
+pub spends-shared : (p : Literal → Bool) (u n : ℕ) (a : Answer) (before after : Held) (A : Type 0) (h h' : Purse) → before.flag ≡ false → count before.seen.value ≤ max_count → n ≤ max_count →
     (is_refused a ≡ true → A × (h' ≡ h)) → (units p before.seen ≡ 0 → u ≡ 0 → units p after.seen ≡ 0) → Costs p u n before.seen h h' →
-    Pays p (allowed_for (own_cost (entry_of before) + n) a) (u ≡ 0) before after h h'
-pays-shared p u n a before after A h h' shares small few free bare costs =
+    Spends p (allowed_for (own_cost (entry_of before) + n) a) (u ≡ 0) before after h h'
+spends-shared p u n a before after A h h' shares small few free bare costs =
     let size-most = at-most-size before.seen.alone (size before.seen.value) in
     let rises = costs.moved.copied in
     let most = allowed a before.flag (size before.seen.value) n A h h' shares free (omega (arith, size-most, rises)) in
@@ -50,12 +50,12 @@ literals-beside (Ok d) m n = omega arith
 literals-beside (Err why) m n = omega arith
 
 -- literals may be copied beside what is allowed
-pub pays-literals : (p : Literal → Bool) (m n : ℕ) (a : Answer) (brings_none : Type 0) (before after : Held) (h h' : Purse) → Pays p (allowed_for (m + n) a) brings_none before after h h' → Pays p (n + allowed_for m a) brings_none before after h h'
-pays-literals p m n a brings_none before after h h' pays =
-    let most = pays.copied.copied in
+pub spends-literals : (p : Literal → Bool) (m n : ℕ) (a : Answer) (brings_none : Type 0) (before after : Held) (h h' : Purse) → Spends p (allowed_for (m + n) a) brings_none before after h h' → Spends p (n + allowed_for m a) brings_none before after h h'
+spends-literals p m n a brings_none before after h h' spends =
+    let most = spends.copied.copied in
     let beside = literals-beside a m n in
     record {
-      copied = record { copied = omega (arith, most, beside); kept = pays.copied.kept };
-      falls = pays.falls;
-      bare = pays.bare;
+      copied = record { copied = omega (arith, most, beside); kept = spends.copied.kept };
+      falls = spends.falls;
+      bare = spends.bare;
     }
