@@ -1,12 +1,16 @@
 -- What a statement makes of an entry.
 use Rattle.std.specs.Prelude.{◌≡◌, ℕ, ◌+◌, ◌≤◌, ◌^◌, Bool, true, false, not, List, [], get_or, set, ⊤, Option, Some, None, Result, Ok, Err}
-use Rattle.cow_model.specs.Operation.{Answer}
+use Rattle.cow_model.specs.Operation.{Answer, fitting}
 use Rattle.cow_model.specs.Plain.{size}
 use Rattle.cow_model.specs.Purse.{Purse, RisesWithin}
-use Rattle.cow_model.specs.Sharing.{alone_after, own_cost}
+use Rattle.cow_model.specs.Lexis.{Text}
+use Rattle.cow_model.specs.Sharing.{alone_after, own_cost, key_cost}
 use Rattle.cow_model.specs.declared.plain.Literal.{Literal}
 use Rattle.cow_model.specs.declared.memory.NoMemory.{NoMemory}
+use Rattle.cow_model.specs.Step.{becomes, with_entry}
 use Rattle.cow_model.specs.declared.outcome.Entry.{Entry}
+use Rattle.cow_model.specs.declared.outcome.Environment.{Environment}
+use Rattle.cow_model.specs.declared.outcome.Outcome.{Outcome}
 use Rattle.cow_model.specs.declared.statement.Side.{Side}
 use Rattle.cow_model.specs.declared.statement.Side.TheVariants.{First}
 use Rattle.cow_model.specs.declared.value.Plain.{Plain}
@@ -16,6 +20,15 @@ use Rattle.cow_model.specs.declared.refusal.Refusal.TheVariants.{Full}
 use Rattle.cow_kinds.specs.Answers.{verdict, is_refused, reply_of}
 use Rattle.cow_kinds.specs.Seen.{units}
 use Rattle.cow_eval.specs.Envs.{Held, Envs, entry_of}
+
+-- the most copies of a change, of one key where there is one
+abbrev pub cost_of : Option Literal → Entry → ℕ
+cost_of None e = own_cost e
+cost_of (Some key) e = key_cost key e
+
+-- a statement that changes one value, of which one key where there is one
+abbrev pub change_in : Environment → Text → Option Literal → (Plain → Answer) → Outcome
+change_in env name key run = with_entry env name (λ e. becomes env name (cost_of key e) (alone_after e) (fitting (run e.value)))
 
 -- the entry after a statement, of which `alone` tells the flag: a refused one changes nothing
 abbrev pub entry_after : (Plain → Bool) → Entry → Answer → Entry

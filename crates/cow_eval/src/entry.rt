@@ -1,5 +1,5 @@
 // A name with its value, and what one statement does to it.
-ghost use Rattle.std.specs.Prelude.{◌≡◌, ◌+◌, ◌^◌, ◌≤◌, ◌<◌, ◌++◌, true, false, not, nat_lt, length, [], ⊤, IsOk, IfOk, OnOk, OnErr, Ok, Err, MatchResult, if◌then◌else◌};
+ghost use Rattle.std.specs.Prelude.{◌≡◌, ◌+◌, ◌^◌, ◌≤◌, ◌<◌, ◌++◌, true, false, not, nat_lt, length, option_copied, [], ⊤, IsOk, IfOk, OnOk, OnErr, Ok, Err, MatchResult, if◌then◌else◌};
 ghost use Rattle.std.specs.Str.{bytes_eq};
 ghost use Rattle.cow_model.specs.Changes.{change_of, change_by_of, query_of, query_both_of};
 ghost use Rattle.cow_model.specs.Env as environment;
@@ -17,7 +17,7 @@ ghost use Rattle.cow_model.specs.Atoms.{FitsTexts, counted_in};
 ghost use Rattle.cow_kinds.specs.Seen.{shared, stop, units};
 ghost use Rattle.cow_kinds.specs.Values.{seen, plain_of, is_alone};
 ghost use Rattle.cow_eval.specs.Envs.{entry_of};
-ghost use Rattle.cow_eval.specs.Entries.{entry_after, refusal_or_full, allowed_for, Spends, max_stop};
+ghost use Rattle.cow_eval.specs.Entries.{cost_of, entry_after, refusal_or_full, allowed_for, Spends, max_stop};
 
 use crate::values::{flag_after, is_front, pop, self_refusal, size, slice_refusal, stop};
 use cow_cell::{Holder, Stock};
@@ -82,6 +82,18 @@ impl<T: Element<Q>, Q: Stock> Entry<T, Q> {
     {
         match &self.value {
             Value::Array(_) | Value::Slice(_) => self.own_cost(),
+        }
+    }
+
+    /// The most copies of a change, of one key where there is one.
+    pub fn cost(&self, key: Option<&Literal>) -> usize
+        ensures cost { result ≡ cost_of (option_copied key.entry) (entry_of self.now) }
+        ensures flat { result ≡ sharing.own_cost (entry_of self.now) }
+        ensures small { result ≤ max_count }
+    {
+        match key {
+            None => self.own_cost(),
+            Some(key) => self.key_cost(key),
         }
     }
 

@@ -1,5 +1,5 @@
 // One statement, as its definition says.
-ghost use Rattle.std.specs.Prelude.{◌≡◌, ◌++◌, ◌^◌, ◌≤◌, ◌+◌, IfOk, IsOk, is_some, true, false, length, count_by, All, OnOk, OnErr, if◌then◌else◌};
+ghost use Rattle.std.specs.Prelude.{◌≡◌, ◌++◌, ◌^◌, ◌≤◌, ◌+◌, IfOk, IsOk, is_some, true, false, length, count_by, option_copied, All, OnOk, OnErr, if◌then◌else◌};
 ghost use Rattle.cow_model.specs.Changes.{change_of, change_by_of, query_of, query_both_of};
 ghost use Rattle.cow_model.specs.Env.{place_of, has_place};
 ghost use Rattle.cow_model.specs.Literals.{FitsText};
@@ -11,7 +11,7 @@ ghost use Rattle.cow_model.specs.Sharing.{literals};
 ghost use Rattle.cow_model.specs.Step as spec;
 ghost use Rattle.cow_model.specs.declared.statement.Statement.{out-Statement};
 ghost use Rattle.cow_model.specs.Atoms.{FitsTexts, counted_in};
-ghost use Rattle.cow_eval.specs.Entries.{Paid};
+ghost use Rattle.cow_eval.specs.Entries.{Paid, change_in};
 ghost use Rattle.cow_eval.specs.Envs.{env_of, IsBare, Balances};
 
 use crate::entry::Entry;
@@ -243,6 +243,44 @@ pub fn ask_both<T: Element<Q>, Q: Stock>(
     }
 }
 
+// A statement that changes one value, of which one key where there is one.
+fn change_in<T: Element<Q>, Q: Stock>(
+    alloc: Global,
+    statement: &Statement,
+    name: &[u8],
+    key: Option<&Literal>,
+    env: &mut Env<T, Q>,
+    h: &mut Holder<Q>,
+    text: &mut Vec<u8>,
+) -> Result<(), NoMemory>
+    requires texts { FitsTexts (out-Statement statement.now) }
+    requires few { literals (out-Statement statement.now) ≤ max_count }
+    requires spare { 2 ^ 40 ≤ h.old.spare }
+    ensures env { OnOk result (env_of env.new ≡ (change_in (env_of env.old) name.now (option_copied key.entry) (change_of (out-Statement statement.now))).env) }
+    ensures text { OnOk result (text.new.items ≡ text.old.items ++ (change_in (env_of env.old) name.now (option_copied key.entry) (change_of (out-Statement statement.now))).text) }
+    ensures err { OnErr result (text.new.items ≡ text.old.items) }
+    ensures most { OnErr result (env.new.allowed ≤ (change_in (env_of env.old) name.now (option_copied key.entry) (change_of (out-Statement statement.now))).env.allowed) }
+    ensures paid { Paid (literals (out-Statement statement.now)) env.old env.new h.old h.new }
+    ensures bare { IsBare T.is_counted env.old.names → counted_in T.is_counted (out-Statement statement.now) ≡ 0 → OnOk result (Balances T.is_counted 0 env.old.names env.new.names h.old h.new) }
+{
+    let Some(at) = find(&env.names, name) else {
+        return refuse(text, Refusal::NoName);
+    };
+    let entry = &mut env.names[at];
+    if entry.is_far() {
+        return Err(NoMemory);
+    }
+    let before = env.allowed;
+    env.allowed = sum(before, entry.cost(key))?;
+    match entry.change(alloc, statement, text, h)? {
+        Ok(()) => Ok(()),
+        Err(why) => {
+            env.allowed = before;
+            refuse(text, why)
+        }
+    }
+}
+
 /// A statement that changes one value.
 pub fn change<T: Element<Q>, Q: Stock>(
     alloc: Global,
@@ -262,22 +300,7 @@ pub fn change<T: Element<Q>, Q: Stock>(
     ensures paid { Paid (literals (out-Statement statement.now)) env.old env.new h.old h.new }
     ensures bare { IsBare T.is_counted env.old.names → counted_in T.is_counted (out-Statement statement.now) ≡ 0 → OnOk result (Balances T.is_counted 0 env.old.names env.new.names h.old h.new) }
 {
-    let Some(at) = find(&env.names, name) else {
-        return refuse(text, Refusal::NoName);
-    };
-    let entry = &mut env.names[at];
-    if entry.is_far() {
-        return Err(NoMemory);
-    }
-    let before = env.allowed;
-    env.allowed = sum(before, entry.own_cost())?;
-    match entry.change(alloc, statement, text, h)? {
-        Ok(()) => Ok(()),
-        Err(why) => {
-            env.allowed = before;
-            refuse(text, why)
-        }
-    }
+    change_in(alloc, statement, name, None, env, h, text)
 }
 
 /// A statement that changes one key.
@@ -300,22 +323,7 @@ pub fn change_key<T: Element<Q>, Q: Stock>(
     ensures paid { Paid (literals (out-Statement statement.now)) env.old env.new h.old h.new }
     ensures bare { IsBare T.is_counted env.old.names → counted_in T.is_counted (out-Statement statement.now) ≡ 0 → OnOk result (Balances T.is_counted 0 env.old.names env.new.names h.old h.new) }
 {
-    let Some(at) = find(&env.names, name) else {
-        return refuse(text, Refusal::NoName);
-    };
-    let entry = &mut env.names[at];
-    if entry.is_far() {
-        return Err(NoMemory);
-    }
-    let before = env.allowed;
-    env.allowed = sum(before, entry.key_cost(key))?;
-    match entry.change(alloc, statement, text, h)? {
-        Ok(()) => Ok(()),
-        Err(why) => {
-            env.allowed = before;
-            refuse(text, why)
-        }
-    }
+    change_in(alloc, statement, name, Some(key), env, h, text)
 }
 
 /// `pop N END`
