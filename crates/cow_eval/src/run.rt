@@ -162,15 +162,8 @@ fn act<T: Element<Q>, Q: Stock>(
             atoms,
             ..
         } => {
-            make(
-                alloc,
-                name.as_slice(),
-                *kind,
-                atoms.as_slice(),
-                env,
-                h,
-                text,
-            )
+            let atoms = atoms.as_slice();
+            make(alloc, name.as_slice(), *kind, atoms, env, h, text)
         }
         Statement::Assign { name, other, .. } => {
             assign(alloc, name.as_slice(), other.as_slice(), env, h, text)
@@ -182,16 +175,8 @@ fn act<T: Element<Q>, Q: Stock>(
             j,
             ..
         } => {
-            slice(
-                alloc,
-                name.as_slice(),
-                other.as_slice(),
-                *i,
-                *j,
-                env,
-                h,
-                text,
-            )
+            let other = other.as_slice();
+            slice(alloc, name.as_slice(), other, *i, *j, env, h, text)
         }
         Statement::Discard { name, .. } => discard(name.as_slice(), env, h, text),
         Statement::Show { name, .. } => show(name.as_slice(), env, text),
