@@ -124,13 +124,13 @@ module _ (before : Envs) (name : Text) (at : ℕ) (e e' : Held) (place : env.pla
   pub itself-done : Ok _ ≡ verdict (fitting (run e.seen.value e.seen.value)) → reply_of (fitting (run e.seen.value e.seen.value)) ≡ [] →
       Did (env_of (record { names = set before.names at e'; room = before.room; allowed = before.allowed + (both_cost (env.shared (entry_of e)) + size e.seen.value) })) [] (change_by (env_of before) name name true run)
   itself-done ok silent =
-      let did = changed before name at e e' place is (λ x. both_cost (env.shared x) + size e.seen.value) (λ x v. false) (λ x. fitting (run x.value e.seen.value)) after ok in
+      let did = changed before name e' place is (λ x. both_cost (env.shared x) + size e.seen.value) (λ x v. false) (λ x. fitting (run x.value e.seen.value)) after ok in
       as-whole _ [] _ _ (quietly _ _ _ silent did) (whole before name name at e place is run true self)
 
   pub itself-refused : (why : Refusal) → Err why ≡ verdict (fitting (run e.seen.value e.seen.value)) →
       Did (env_of (record { names = set before.names at e'; room = before.room; allowed = before.allowed })) (refusal why) (change_by (env_of before) name name true run)
   itself-refused why err =
-      let did = kept before name at e e' place is (λ x. both_cost (env.shared x) + size e.seen.value) (λ x v. false) (λ x. fitting (run x.value e.seen.value)) after why err in
+      let did = kept before name e' place is (λ x. both_cost (env.shared x) + size e.seen.value) (λ x v. false) (λ x. fitting (run x.value e.seen.value)) after err in
       as-whole _ (refusal why) _ _ did (whole before name name at e place is run true self)
 
 module _ (before : Envs) (name other : Text) (at by : ℕ) (x y : Held) (place : env.place_of name (map entry_of before.names) ≡ Some at) (is : x ≡ get_or before.names at x)
@@ -145,13 +145,13 @@ module _ (before : Envs) (name other : Text) (at by : ℕ) (x y : Held) (place :
   pub other-done : Ok _ ≡ told →
       Did (env_of (record { names = names; room = before.room; allowed = before.allowed + (both_cost (entry_of x) + size y.seen.value) })) [] (change_by (env_of before) name other true run)
   other-done ok =
-      let did = changed before name at d.old d.new place d.old_is (λ e. both_cost e + size d.other.seen.value) alone_after (λ e. fitting (run e.value d.other.seen.value)) d.entry (ok ∙ d.answer) in
+      let did = changed before name d.new place d.old_is (λ e. both_cost e + size d.other.seen.value) alone_after (λ e. fitting (run e.value d.other.seen.value)) d.entry (ok ∙ d.answer) in
       let out = as-whole _ [] _ _ (quietly _ _ _ d.silent did) (whole before name other by d.other place' d.other_is run false differ) in
       rw (d.names, ← cost-is) out
 
   pub other-refused : (why : Refusal) → Err why ≡ told →
       Did (env_of (record { names = names; room = before.room; allowed = before.allowed })) (refusal why) (change_by (env_of before) name other true run)
   other-refused why err =
-      let did = kept before name at d.old d.new place d.old_is (λ e. both_cost e + size d.other.seen.value) alone_after (λ e. fitting (run e.value d.other.seen.value)) d.entry why (err ∙ d.answer) in
+      let did = kept before name d.new place d.old_is (λ e. both_cost e + size d.other.seen.value) alone_after (λ e. fitting (run e.value d.other.seen.value)) d.entry (err ∙ d.answer) in
       let out = as-whole _ (refusal why) _ _ did (whole before name other by d.other place' d.other_is run false differ) in
       rw d.names out

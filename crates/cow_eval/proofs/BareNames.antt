@@ -38,8 +38,8 @@ module _ (p : Literal → Bool) (name : Text) (names : List Held) (at : ℕ) (e 
   found-bare = bare-at p names at e within is bare
 
   -- a name of which the value changed
-  pub changed-bare : (e' : Held) (n : ℕ) (brings : Type 0) (h h' : Purse) → Spends p n brings e e' h h' → brings → Balances p 0 names (set names at e') h h'
-  changed-bare e' n brings h h' spends none =
+  pub changed-bare : {e' : Held} {n : ℕ} {brings : Type 0} {h h' : Purse} → Spends p n brings e e' h h' → brings → Balances p 0 names (set names at e') h h'
+  changed-bare {e'} spends none =
       let did = spends.bare none found-bare in
       let long = length-set names at e' in
       record { bare = bare-set p names at e' bare did.0; sum = omega (arith, long, did.1) }

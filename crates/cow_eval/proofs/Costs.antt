@@ -55,24 +55,24 @@ pub refused-by : (a : Answer) (why : Refusal) → Err why ≡ verdict a → is_r
 refused-by (Ok done) why is = cc
 refused-by (Err other) why is = refl
 
-module _ (before : Envs) (name : Text) (at : ℕ) (e : Held) (place : env.place_of name (map entry_of before.names) ≡ Some at) (is : e ≡ get_or before.names at e)
+module _ (before : Envs) (name : Text) {at : ℕ} {e : Held} (place : env.place_of name (map entry_of before.names) ≡ Some at) (is : e ≡ get_or before.names at e)
     (n : Entry → ℕ) (alone : Entry → Plain → Bool) (run : Entry → Answer) where
   -- where memory ran out in a change that isn't refused, its cost was allowed
-  pub most-tried : (allowed : ℕ) → allowed ≡ before.allowed + n (entry_of e) → (is_refused (run (entry_of e)) ≡ true → false ≡ true) →
+  pub most-tried : {allowed : ℕ} → allowed ≡ before.allowed + n (entry_of e) → (is_refused (run (entry_of e)) ≡ true → false ≡ true) →
       allowed ≤ (with_entry (env_of before) name (λ x. becomes (env_of before) name (n x) (alone x) (run x))).env.allowed
-  most-tried allowed sum told = rw ((there name before.names at e place is).read, sum) (omega (arith, becomes-allowed (env_of before) name (n (entry_of e)) (alone (entry_of e)) (run (entry_of e)) (unrefused (run (entry_of e)) (λ refused. no-told (told refused)))))
+  most-tried sum told = rw ((there name before.names at e place is).read, sum) (omega (arith, becomes-allowed (env_of before) name (n (entry_of e)) (alone (entry_of e)) (run (entry_of e)) (unrefused (run (entry_of e)) (λ refused. no-told (told refused)))))
 
   -- nothing was allowed
   pub most-kept : before.allowed ≤ (with_entry (env_of before) name (λ x. becomes (env_of before) name (n x) (alone x) (run x))).env.allowed
   most-kept = rw ((there name before.names at e place is).read) (allows (env_of before) name (n (entry_of e)) (alone (entry_of e)) (run (entry_of e)))
 
 -- a change that brings no literals
-pub without-literals : (p : Literal → Bool) (most : ℕ) (brings : Type 0) (e e' : Held) (h h' : Purse) → Spends p most brings e e' h h' → Spends p (0 + most) brings e e' h h'
-without-literals p most brings e e' h h' spends =
+pub without-literals : {p : Literal → Bool} {most : ℕ} {brings : Type 0} {e e' : Held} {h h' : Purse} → Spends p most brings e e' h h' → Spends p (0 + most) brings e e' h h'
+without-literals {p} {most} {brings} {e} {e'} {h} {h'} spends =
     let same : most ≡ 0 + most = omega arith in
     subst (λ n. Spends p n brings e e' h h') same spends
 
-module _ (p : Literal → Bool) (literals n : ℕ) (a : Answer) (brings : Type 0) (e e' : Held) (h h' : Purse) (spends : Spends p (literals + allowed_for n a) brings e e' h h') (before after : Envs) where
+module _ {p : Literal → Bool} {literals : ℕ} (n : ℕ) (a : Answer) {brings : Type 0} {e e' : Held} {h h' : Purse} (spends : Spends p (literals + allowed_for n a) brings e e' h h') {before after : Envs} where
   -- a change whose cost was allowed
   pub paid-tried : after.allowed ≡ before.allowed + n → Paid literals before after h h'
   paid-tried sum =
@@ -88,5 +88,5 @@ module _ (p : Literal → Bool) (literals n : ℕ) (a : Answer) (brings : Type 0
       record { copied = record { copied = omega (arith, none, rises, same); kept = spends.copied.kept }; falls = spends.falls }
 
   -- the same by its verdict
-  pub paid-kept : (why : Refusal) → Err why ≡ verdict a → after.allowed ≡ before.allowed → Paid literals before after h h'
-  paid-kept why is same = paid-refused (refused-by a why is) same
+  pub paid-kept : {why : Refusal} → Err why ≡ verdict a → after.allowed ≡ before.allowed → Paid literals before after h h'
+  paid-kept {why} is same = paid-refused (refused-by a why is) same

@@ -72,7 +72,7 @@ module _ (p : Literal → Bool) (before : Envs) (name : Text) (at : ℕ) (e e' :
     (n : ℕ) (a : Answer) (spends : Spends p (allowed_for n a) ⊤ e e' h h') where
   -- units and names balance after a change by itself
   pub itself-bare : IsBare p before.names → Balances p 0 before.names (set before.names at e') h h'
-  itself-bare bare = changed-bare p name before.names at e place is bare e' (allowed_for n a) ⊤ h h' spends _
+  itself-bare bare = changed-bare p name before.names at e place is bare spends _
 
 module _ (before : Envs) (name other : Text) (at by : ℕ) (x y : Held) (place : env.place_of name (map entry_of before.names) ≡ Some at) (is : x ≡ get_or before.names at x)
     (place' : env.place_of other (map entry_of before.names) ≡ Some by) (is' : y ≡ get_or before.names by y)
@@ -106,21 +106,21 @@ module _ (p : Literal → Bool) (before : Envs) (name other : Text) (at by : ℕ
 
   -- it brings no literals
   plain-spends : Spends p (0 + allowed_for (own_cost (entry_of d.old) + size d.other.seen.value) (fitting (run d.old.seen.value d.other.seen.value))) (units p d.other.seen ≡ 0) d.old d.new h h'
-  plain-spends = without-literals p (allowed_for (own_cost (entry_of d.old) + size d.other.seen.value) (fitting (run d.old.seen.value d.other.seen.value))) (units p d.other.seen ≡ 0) d.old d.new h h' d.spends
+  plain-spends = without-literals d.spends
 
   -- a change by another is covered by what is allowed for it
   pub other-paid : (after : Envs) → after.allowed ≡ before.allowed + (own_cost (entry_of x) + size y.seen.value) → Paid 0 before after h h'
-  other-paid after is = paid-tried p 0 (own_cost (entry_of d.old) + size d.other.seen.value) (fitting (run d.old.seen.value d.other.seen.value)) (units p d.other.seen ≡ 0) d.old d.new h h' plain-spends before after (omega (arith, is, costs))
+  other-paid after is = paid-tried {literals = 0} (own_cost (entry_of d.old) + size d.other.seen.value) _ plain-spends (omega (arith, is, costs))
 
   -- a refused one makes no copy
   pub other-none : (after : Envs) → is_refused (fitting (run x.seen.value y.seen.value)) ≡ true → after.allowed ≡ before.allowed → Paid 0 before after h h'
-  other-none after refused is = paid-refused p 0 (own_cost (entry_of d.old) + size d.other.seen.value) (fitting (run d.old.seen.value d.other.seen.value)) (units p d.other.seen ≡ 0) d.old d.new h h' plain-spends before after (ap is_refused answer-is ∙ refused) is
+  other-none after refused is = paid-refused {literals = 0} _ _ plain-spends (ap is_refused answer-is ∙ refused) is
 
   -- units and names balance
   pub other-bare : IsBare p before.names → Balances p 0 before.names names h h'
   other-bare bare =
       let none = found-bare p other before.names by d.other place' d.other_is bare in
-      rw d.names (changed-bare p name before.names at d.old place d.old_is bare d.new (allowed_for (own_cost (entry_of d.old) + size d.other.seen.value) (fitting (run d.old.seen.value d.other.seen.value))) (units p d.other.seen ≡ 0) h h' d.spends none)
+      rw d.names (changed-bare p name before.names at d.old place d.old_is bare d.spends none)
 
   -- where a refusal would be told and none is, its cost is allowed
   pub other-most : (is_told → ⊥) → bytes_eq name other ≡ false → (change_by (env_of before) name other true run).env.allowed ≡ before.allowed + (both_cost (entry_of x) + size y.seen.value)

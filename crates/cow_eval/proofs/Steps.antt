@@ -51,9 +51,9 @@ unchanged alone e (Ok d) why is = cc
 unchanged alone e (Err other) why is = refl
 
 -- nothing is printed but the refusal
-pub unsaid : (a : Answer) (why : Refusal) (old text : Text) → Err why ≡ verdict a → text ≡ old ++ reply_of a → text ≡ old
-unsaid (Ok d) why old text is grown = cc
-unsaid (Err other) why old text is grown = grown ∙ append-nil old
+pub unsaid : (a : Answer) {why : Refusal} {old text : Text} → Err why ≡ verdict a → text ≡ old ++ reply_of a → text ≡ old
+unsaid (Ok d) is grown = cc
+unsaid (Err other) {old = old} is grown = grown ∙ append-nil old
 
 pub unasked : (t : Told) (why : Refusal) (old text : Text) → Err why ≡ told_verdict t → text ≡ old ++ told_reply t → text ≡ old
 unasked (Ok d) why old text is grown = cc
@@ -131,23 +131,25 @@ module _ (before : Envs) (name : Text) (at : ℕ) (e : Held) (place : env.place_
       let stands = there name before.names at e place is in
       rw stands.read (asked (env_of before) (ask-of e.seen.value) why no-told)
 
-module _ (before : Envs) (name : Text) (at : ℕ) (e e' : Held) (place : env.place_of name (map entry_of before.names) ≡ Some at) (is : e ≡ get_or before.names at e)
-    (n : Entry → ℕ) (alone : Entry → Plain → Bool) (run : Entry → Answer) (after : entry_of e' ≡ entry_after (alone (entry_of e)) (entry_of e) (run (entry_of e))) where
-  -- what the definitions do with the entry of the name
-  abbrev pub out : Outcome
-  out = with_entry (env_of before) name (λ x. becomes (env_of before) name (n x) (alone x) (run x))
+-- what the definitions do with the entry of a name
+abbrev out : Environment → Text → (Entry → ℕ) → (Entry → Plain → Bool) → (Entry → Answer) → Outcome
+out before name n alone run = with_entry before name (λ x. becomes before name (n x) (alone x) (run x))
 
+module _ (before : Envs) (name : Text) {at : ℕ} {e : Held} (e' : Held) (place : env.place_of name (map entry_of before.names) ≡ Some at) (is : e ≡ get_or before.names at e)
+    (n : Entry → ℕ) (alone : Entry → Plain → Bool) (run : Entry → Answer) (after : entry_of e' ≡ entry_after (alone (entry_of e)) (entry_of e) (run (entry_of e))) where
+  -- a change that is done
   pub changed : Ok _ ≡ verdict (run (entry_of e)) →
-      Did (env_of (record { names = set before.names at e'; room = before.room; allowed = before.allowed + n (entry_of e) })) (reply_of (run (entry_of e))) out
+      Did (env_of (record { names = set before.names at e'; room = before.room; allowed = before.allowed + n (entry_of e) })) (reply_of (run (entry_of e))) (out (env_of before) name n alone run)
   changed ok =
       let stands = there name before.names at e place is in
       let same : e'.name ≡ e.name = ap (λ x. x.name) after ∙ named-after (alone (entry_of e)) (entry_of e) (run (entry_of e)) in
       let given = put-there name before.names at e place is e' same in
       rw stands.read (done (env_of before) name (entry_of e) (n (entry_of e)) (alone (entry_of e)) (run (entry_of e)) (map entry_of (set before.names at e')) ok stands.name_is (given ∙ ap (λ x. env.given x (map entry_of before.names)) after))
 
-  pub kept : (why : Refusal) → Err why ≡ verdict (run (entry_of e)) →
-      Did (env_of (record { names = set before.names at e'; room = before.room; allowed = before.allowed })) (refusal why) out
-  kept why err =
+  -- a change that is refused
+  pub kept : {why : Refusal} → Err why ≡ verdict (run (entry_of e)) →
+      Did (env_of (record { names = set before.names at e'; room = before.room; allowed = before.allowed })) (refusal why) (out (env_of before) name n alone run)
+  kept {why} err =
       let stands = there name before.names at e place is in
       let same = same-there name before.names at e place is e' (after ∙ unchanged (alone (entry_of e)) (entry_of e) (run (entry_of e)) why err) in
       rw (same, stands.read) (refused (env_of before) name (n (entry_of e)) (alone (entry_of e)) (run (entry_of e)) why err)

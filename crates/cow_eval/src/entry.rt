@@ -1,5 +1,5 @@
 // A name with its value, and what one statement does to it.
-ghost use Rattle.std.specs.Prelude.{◌≡◌, ◌+◌, ◌^◌, ◌≤◌, ◌<◌, ◌++◌, true, false, not, nat_lt, length, option_copied, [], ⊤, IsOk, IfOk, OnOk, OnErr, Ok, Err, MatchResult, if◌then◌else◌};
+ghost use Rattle.std.specs.Prelude.{◌≡◌, ◌+◌, ◌^◌, ◌≤◌, ◌<◌, ◌++◌, true, false, not, nat_lt, option_copied, [], ⊤, IsOk, IfOk, OnOk, OnErr, Ok, Err, MatchResult, if◌then◌else◌};
 ghost use Rattle.std.specs.Str.{bytes_eq};
 ghost use Rattle.cow_model.specs.Changes.{change_of, change_by_of, query_of, query_both_of};
 ghost use Rattle.cow_model.specs.Env as environment;

@@ -1,6 +1,6 @@
 // One statement, as its definition says.
 ghost use Rattle.std.specs.Prelude.{◌≡◌, ◌++◌, ◌^◌, ◌≤◌, ◌+◌, IfOk, IsOk, is_some, true, false, length, count_by, option_copied, All, OnOk, OnErr, if◌then◌else◌};
-ghost use Rattle.cow_model.specs.Changes.{change_of, change_by_of, query_of, query_both_of};
+ghost use Rattle.cow_model.specs.Changes.{change_of, query_of, query_both_of};
 ghost use Rattle.cow_model.specs.Env.{place_of, has_place};
 ghost use Rattle.cow_model.specs.Literals.{FitsText};
 ghost use Rattle.cow_model.specs.Operation as operation;

@@ -51,7 +51,7 @@ returns-in-Ok-clause-bare g c =
 pub returns-in-Err-clause-paid : goal.returns-in-Err-clause-paid
 returns-in-Err-clause-paid g c =
     let refused = refused-by (fitting (change_by_of (out-Statement c.args.statement.now) c.index_mut-entry.result.now.seen.value c.index_mut-entry.result.now.seen.value)) c.in-Err.why (sym c.in-Err.is ∙ c.in_ok-change_by_itself.ensures.answer) in
-    rw (← c.env.view_is) (paid-refused g.T.Item.is_counted 0 (size c.index_mut-entry.result.now.seen.value + size c.index_mut-entry.result.now.seen.value) (fitting (change_by_of (out-Statement c.args.statement.now) c.index_mut-entry.result.now.seen.value c.index_mut-entry.result.now.seen.value)) _ c.index_mut-entry.result.now c.change_by_itself.new.self c.args.h.now c.change_by_itself.new.h (without-literals g.T.Item.is_counted _ _ _ _ _ _ c.change_by_itself.ensures.spends) (record { names = c.env.inside.names.items; room = c.env.inside.room; allowed = c.env.inside.allowed }) _ refused refl)
+    rw (← c.env.view_is) (paid-refused {literals = 0} _ _ (without-literals c.change_by_itself.ensures.spends) refused refl)
 
 pub returns-in-Err-clause-bare : goal.returns-in-Err-clause-bare
 returns-in-Err-clause-bare g c =

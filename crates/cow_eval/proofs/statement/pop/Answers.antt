@@ -1,9 +1,6 @@
 use Rattle.std.proofs.Common.{◌+◌, ap, sym, ◌∙◌}
-use Rattle.std.specs.Prelude.{⊤}
 use Rattle.cow_model.specs.Operation.{pop}
 use Rattle.cow_model.specs.Sharing.{pop_cost, alone_after_pop}
-use Rattle.cow_eval.specs.Entries.{allowed_for}
-use Rattle.cow_eval.specs.Envs.{entry_of}
 use Rattle.cow_eval.proofs.BareNames.{changed-bare}
 use Rattle.cow_eval.proofs.Costs.{always-err, most-tried}
 use Rattle.cow_eval.proofs.Results.{always}
@@ -13,51 +10,47 @@ use Rattle.cow_eval.proofs.statement.pop.Goals as goal
 pub returns-in-Ok-clause-env : goal.returns-in-Ok-clause-env
 returns-in-Ok-clause-env g c =
     let found = rw c.deref.ensures.value at c.find.ensures in
-    let did = changed (record { names = c.env.inside.names.items; room = c.env.inside.room; allowed = c.env.inside.allowed }) c.args.name.now c.in-Some.at c.index_mut-entry.result.now c.pop.new.self (sym found ∙ c.in-Some.is) c.index_mut-entry.ensures.value
-    (pop_cost c.args.side) (alone_after_pop c.args.side) (λ e. pop c.args.side e.value) c.in_ok-pop.ensures.entry (sym c.in-Ok.is ∙ c.in_ok-pop.ensures.answer) in
+    let did = changed (record { names = c.env.inside.names.items; room = c.env.inside.room; allowed = c.env.inside.allowed }) c.args.name.now c.pop.new.self (sym found ∙ c.in-Some.is) c.index_mut-entry.ensures.value (pop_cost c.args.side) (alone_after_pop c.args.side) (λ e. pop c.args.side e.value) c.in_ok-pop.ensures.entry (sym c.in-Ok.is ∙ c.in_ok-pop.ensures.answer) in
     rw (c.in_ok-env-inside.ensures.value, c.pop_cost.ensures.cost, ← c.env.view_is) did.env
 
 pub returns-in-Ok-clause-text : goal.returns-in-Ok-clause-text
 returns-in-Ok-clause-text g c =
     let found = rw c.deref.ensures.value at c.find.ensures in
-    let did = changed (record { names = c.env.inside.names.items; room = c.env.inside.room; allowed = c.env.inside.allowed }) c.args.name.now c.in-Some.at c.index_mut-entry.result.now c.pop.new.self (sym found ∙ c.in-Some.is) c.index_mut-entry.ensures.value
-    (pop_cost c.args.side) (alone_after_pop c.args.side) (λ e. pop c.args.side e.value) c.in_ok-pop.ensures.entry (sym c.in-Ok.is ∙ c.in_ok-pop.ensures.answer) in
+    let did = changed (record { names = c.env.inside.names.items; room = c.env.inside.room; allowed = c.env.inside.allowed }) c.args.name.now c.pop.new.self (sym found ∙ c.in-Some.is) c.index_mut-entry.ensures.value (pop_cost c.args.side) (alone_after_pop c.args.side) (λ e. pop c.args.side e.value) c.in_ok-pop.ensures.entry (sym c.in-Ok.is ∙ c.in_ok-pop.ensures.answer) in
     rw (← c.env.view_is, ← did.text) c.in_ok-pop.ensures.reply
 
 pub returns-in-Err-clause-env : goal.returns-in-Err-clause-env
 returns-in-Err-clause-env g c =
     let found = rw c.deref.ensures.value at c.find.ensures in
-    let did = kept (record { names = c.env.inside.names.items; room = c.env.inside.room; allowed = c.env.inside.allowed }) c.args.name.now c.in-Some.at c.index_mut-entry.result.now c.pop.new.self (sym found ∙ c.in-Some.is) c.index_mut-entry.ensures.value
-    (pop_cost c.args.side) (alone_after_pop c.args.side) (λ e. pop c.args.side e.value) c.in_ok-pop.ensures.entry c.in-Err.why (sym c.in-Err.is ∙ c.in_ok-pop.ensures.answer) in
+    let did = kept (record { names = c.env.inside.names.items; room = c.env.inside.room; allowed = c.env.inside.allowed }) c.args.name.now c.pop.new.self (sym found ∙ c.in-Some.is) c.index_mut-entry.ensures.value (pop_cost c.args.side) (alone_after_pop c.args.side) (λ e. pop c.args.side e.value) c.in_ok-pop.ensures.entry (sym c.in-Err.is ∙ c.in_ok-pop.ensures.answer) in
     always _ c.refuse-in-Err.result (rw (← c.env.view_is) did.env)
 
 pub returns-in-Err-clause-text : goal.returns-in-Err-clause-text
 returns-in-Err-clause-text g c =
     let found = rw c.deref.ensures.value at c.find.ensures in
-    let did = kept (record { names = c.env.inside.names.items; room = c.env.inside.room; allowed = c.env.inside.allowed }) c.args.name.now c.in-Some.at c.index_mut-entry.result.now c.pop.new.self (sym found ∙ c.in-Some.is) c.index_mut-entry.ensures.value
-    (pop_cost c.args.side) (alone_after_pop c.args.side) (λ e. pop c.args.side e.value) c.in_ok-pop.ensures.entry c.in-Err.why (sym c.in-Err.is ∙ c.in_ok-pop.ensures.answer) in
-    let same = unsaid (pop c.args.side c.index_mut-entry.result.now.seen.value) c.in-Err.why c.args.text.now.items c.pop.new.text.items (sym c.in-Err.is ∙ c.in_ok-pop.ensures.answer) c.in_ok-pop.ensures.reply in
+    let did = kept (record { names = c.env.inside.names.items; room = c.env.inside.room; allowed = c.env.inside.allowed }) c.args.name.now c.pop.new.self (sym found ∙ c.in-Some.is) c.index_mut-entry.ensures.value (pop_cost c.args.side) (alone_after_pop c.args.side) (λ e. pop c.args.side e.value) c.in_ok-pop.ensures.entry (sym c.in-Err.is ∙ c.in_ok-pop.ensures.answer) in
+    let same = unsaid _ (sym c.in-Err.is ∙ c.in_ok-pop.ensures.answer) c.in_ok-pop.ensures.reply in
     rw (← c.env.view_is, ← did.text, ← same) c.refuse-in-Err.ensures.ok
 
 pub returns-in-Err-clause-err : goal.returns-in-Err-clause-err
 returns-in-Err-clause-err g c =
-    let same = unsaid (pop c.args.side c.index_mut-entry.result.now.seen.value) c.in-Err.why c.args.text.now.items c.pop.new.text.items (sym c.in-Err.is ∙ c.in_ok-pop.ensures.answer) c.in_ok-pop.ensures.reply in
+    let same = unsaid _ (sym c.in-Err.is ∙ c.in_ok-pop.ensures.answer) c.in_ok-pop.ensures.reply in
     rw (← same) c.refuse-in-Err.ensures.err
 
 pub returns-in_err-pop-clause-most : goal.returns-in_err-pop-clause-most
 returns-in_err-pop-clause-most g c =
     let found = rw c.deref.ensures.value at c.find.ensures in
-    let most = most-tried (record { names = c.env.inside.names.items; room = c.env.inside.room; allowed = c.env.inside.allowed }) c.args.name.now c.in-Some.at c.index_mut-entry.result.now (sym found ∙ c.in-Some.is) c.index_mut-entry.ensures.value (pop_cost c.args.side) (alone_after_pop c.args.side) (λ e. pop c.args.side e.value) c.in_ok-env-inside.field-0 (c.in_ok-env-inside.ensures.value ∙ ap (λ k. c.env.inside.allowed + k) c.pop_cost.ensures.cost) c.in_err-pop.ensures.told in
+    let most = most-tried (record { names = c.env.inside.names.items; room = c.env.inside.room; allowed = c.env.inside.allowed }) c.args.name.now (sym found ∙ c.in-Some.is) c.index_mut-entry.ensures.value (pop_cost c.args.side) (alone_after_pop c.args.side) (λ e. pop c.args.side e.value) (c.in_ok-env-inside.ensures.value ∙ ap (λ k. c.env.inside.allowed + k) c.pop_cost.ensures.cost) c.in_err-pop.ensures.told in
     always-err _ c.from_residual-in_err-pop.result (rw (← c.env.view_is) most)
 
 pub returns-in-Ok-clause-bare : goal.returns-in-Ok-clause-bare
 returns-in-Ok-clause-bare g c = λ bare.
     let found = rw c.deref.ensures.value at c.find.ensures in
     let names = rw (← c.env.view_is) at bare in
-    rw (← c.env.view_is) (changed-bare g.T.Item.is_counted c.args.name.now c.env.inside.names.items c.in-Some.at c.index_mut-entry.result.now (sym found ∙ c.in-Some.is) c.index_mut-entry.ensures.value names c.pop.new.self (allowed_for (pop_cost c.args.side (entry_of c.index_mut-entry.result.now)) (pop c.args.side c.index_mut-entry.result.now.seen.value)) ⊤ c.args.h.now c.pop.new.h c.pop.ensures.spends _)
+    rw (← c.env.view_is) (changed-bare _ _ _ _ _ (sym found ∙ c.in-Some.is) c.index_mut-entry.ensures.value names c.pop.ensures.spends _)
 
 pub returns-in-Err-clause-bare : goal.returns-in-Err-clause-bare
 returns-in-Err-clause-bare g c = λ bare.
     let found = rw c.deref.ensures.value at c.find.ensures in
     let names = rw (← c.env.view_is) at bare in
-    always _ c.refuse-in-Err.result (rw (← c.env.view_is) (changed-bare g.T.Item.is_counted c.args.name.now c.env.inside.names.items c.in-Some.at c.index_mut-entry.result.now (sym found ∙ c.in-Some.is) c.index_mut-entry.ensures.value names c.pop.new.self (allowed_for (pop_cost c.args.side (entry_of c.index_mut-entry.result.now)) (pop c.args.side c.index_mut-entry.result.now.seen.value)) ⊤ c.args.h.now c.pop.new.h c.pop.ensures.spends _))
+    always _ c.refuse-in-Err.result (rw (← c.env.view_is) (changed-bare _ _ _ _ _ (sym found ∙ c.in-Some.is) c.index_mut-entry.ensures.value names c.pop.ensures.spends _))
