@@ -74,26 +74,14 @@ impl<T: Element<Q>, Q: Stock> Entry<T, Q> {
         if self.alone { 0 } else { size(&self.value) }
     }
 
-    /// The most copies of a change of one key.
-    pub fn key_cost(&self, key: &Literal) -> usize
-        ensures cost { result ≡ sharing.key_cost key.now (entry_of self.now) }
-        ensures flat { result ≡ sharing.own_cost (entry_of self.now) }
-        ensures small { result ≤ max_count }
-    {
-        match &self.value {
-            Value::Array(_) | Value::Slice(_) => self.own_cost(),
-        }
-    }
-
     /// The most copies of a change, of one key where there is one.
     pub fn cost(&self, key: Option<&Literal>) -> usize
         ensures cost { result ≡ cost_of (option_copied key.entry) (entry_of self.now) }
         ensures flat { result ≡ sharing.own_cost (entry_of self.now) }
         ensures small { result ≤ max_count }
     {
-        match key {
-            None => self.own_cost(),
-            Some(key) => self.key_cost(key),
+        match (key, &self.value) {
+            (None, _) | (Some(_), Value::Array(_) | Value::Slice(_)) => self.own_cost(),
         }
     }
 
