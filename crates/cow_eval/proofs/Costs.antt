@@ -5,14 +5,14 @@ use Rattle.cow_model.specs.Env as env
 use Rattle.cow_model.specs.Lexis.{Text}
 use Rattle.cow_model.specs.Operation.{Answer}
 use Rattle.cow_model.specs.Purse.{Purse}
-use Rattle.cow_model.specs.Step.{becomes, with_entry}
+use Rattle.cow_model.specs.Step.{becomes}
 use Rattle.cow_model.specs.declared.outcome.Entry.{Entry}
 use Rattle.cow_model.specs.declared.outcome.Environment.{Environment}
 use Rattle.cow_model.specs.declared.plain.Literal.{Literal}
 use Rattle.cow_model.specs.declared.refusal.Refusal.{Refusal}
 use Rattle.cow_model.specs.declared.value.Plain.{Plain}
 use Rattle.cow_kinds.specs.Answers.{verdict, is_refused}
-use Rattle.cow_eval.specs.Entries.{Spends, Paid, allowed_for}
+use Rattle.cow_eval.specs.Entries.{Spends, Paid, allowed_for, with_change}
 use Rattle.cow_eval.specs.Envs.{Held, Envs, entry_of, env_of}
 use Rattle.cow_eval.proofs.Places.{there}
 
@@ -59,11 +59,11 @@ module _ (before : Envs) (name : Text) {at : ℕ} {e : Held} (place : env.place_
     (n : Entry → ℕ) (alone : Entry → Plain → Bool) (run : Entry → Answer) where
   -- where memory ran out in a change that isn't refused, its cost was allowed
   pub most-tried : {allowed : ℕ} → allowed ≡ before.allowed + n (entry_of e) → (is_refused (run (entry_of e)) ≡ true → false ≡ true) →
-      allowed ≤ (with_entry (env_of before) name (λ x. becomes (env_of before) name (n x) (alone x) (run x))).env.allowed
+      allowed ≤ (with_change (env_of before) name n alone run).env.allowed
   most-tried sum told = rw ((there name before.names at e place is).read, sum) (omega (arith, becomes-allowed (env_of before) name (n (entry_of e)) (alone (entry_of e)) (run (entry_of e)) (unrefused (run (entry_of e)) (λ refused. no-told (told refused)))))
 
   -- nothing was allowed
-  pub most-kept : before.allowed ≤ (with_entry (env_of before) name (λ x. becomes (env_of before) name (n x) (alone x) (run x))).env.allowed
+  pub most-kept : before.allowed ≤ (with_change (env_of before) name n alone run).env.allowed
   most-kept = rw ((there name before.names at e place is).read) (allows (env_of before) name (n (entry_of e)) (alone (entry_of e)) (run (entry_of e)))
 
 -- a change that brings no literals

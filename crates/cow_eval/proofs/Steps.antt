@@ -18,7 +18,7 @@ use Rattle.cow_model.specs.declared.refusal.Refusal.{Refusal}
 use Rattle.cow_model.specs.declared.value.Plain.{Plain}
 use Rattle.cow_kinds.specs.Answers.{verdict, reply_of, told_verdict, told_reply}
 use Rattle.cow_eval.specs.Envs.{Held, Envs, entry_of, env_of}
-use Rattle.cow_eval.specs.Entries.{entry_after, refusal_or_full}
+use Rattle.cow_eval.specs.Entries.{with_change, entry_after, refusal_or_full}
 use Rattle.cow_eval.proofs.Places.{there, put-there, same-there, settled-there, map-remove}
 
 -- an outcome: the environment that was left, and the text
@@ -131,15 +131,11 @@ module _ (before : Envs) (name : Text) (at : ℕ) (e : Held) (place : env.place_
       let stands = there name before.names at e place is in
       rw stands.read (asked (env_of before) (ask-of e.seen.value) why no-told)
 
--- what the definitions do with the entry of a name
-abbrev out : Environment → Text → (Entry → ℕ) → (Entry → Plain → Bool) → (Entry → Answer) → Outcome
-out before name n alone run = with_entry before name (λ x. becomes before name (n x) (alone x) (run x))
-
 module _ (before : Envs) (name : Text) {at : ℕ} {e : Held} (e' : Held) (place : env.place_of name (map entry_of before.names) ≡ Some at) (is : e ≡ get_or before.names at e)
     (n : Entry → ℕ) (alone : Entry → Plain → Bool) (run : Entry → Answer) (after : entry_of e' ≡ entry_after (alone (entry_of e)) (entry_of e) (run (entry_of e))) where
   -- a change that is done
   pub changed : Ok _ ≡ verdict (run (entry_of e)) →
-      Did (env_of (record { names = set before.names at e'; room = before.room; allowed = before.allowed + n (entry_of e) })) (reply_of (run (entry_of e))) (out (env_of before) name n alone run)
+      Did (env_of (record { names = set before.names at e'; room = before.room; allowed = before.allowed + n (entry_of e) })) (reply_of (run (entry_of e))) (with_change (env_of before) name n alone run)
   changed ok =
       let stands = there name before.names at e place is in
       let same : e'.name ≡ e.name = ap (λ x. x.name) after ∙ named-after (alone (entry_of e)) (entry_of e) (run (entry_of e)) in
@@ -148,7 +144,7 @@ module _ (before : Envs) (name : Text) {at : ℕ} {e : Held} (e' : Held) (place 
 
   -- a change that is refused
   pub kept : {why : Refusal} → Err why ≡ verdict (run (entry_of e)) →
-      Did (env_of (record { names = set before.names at e'; room = before.room; allowed = before.allowed })) (refusal why) (out (env_of before) name n alone run)
+      Did (env_of (record { names = set before.names at e'; room = before.room; allowed = before.allowed })) (refusal why) (with_change (env_of before) name n alone run)
   kept {why} err =
       let stands = there name before.names at e place is in
       let same = same-there name before.names at e place is e' (after ∙ unchanged (alone (entry_of e)) (entry_of e) (run (entry_of e)) why err) in

@@ -26,9 +26,13 @@ abbrev pub cost_of : Option Literal → Entry → ℕ
 cost_of None e = own_cost e
 cost_of (Some key) e = key_cost key e
 
+-- a change of the value of a name, for which so many copies are allowed, and of which `alone` tells the flag
+abbrev pub with_change : Environment → Text → (Entry → ℕ) → (Entry → Plain → Bool) → (Entry → Answer) → Outcome
+with_change env name n alone run = with_entry env name (λ e. becomes env name (n e) (alone e) (run e))
+
 -- a statement that changes one value, of which one key where there is one
 abbrev pub change_in : Environment → Text → Option Literal → (Plain → Answer) → Outcome
-change_in env name key run = with_entry env name (λ e. becomes env name (cost_of key e) (alone_after e) (fitting (run e.value)))
+change_in env name key run = with_change env name (cost_of key) alone_after (λ e. fitting (run e.value))
 
 -- the entry after a statement, of which `alone` tells the flag: a refused one changes nothing
 abbrev pub entry_after : (Plain → Bool) → Entry → Answer → Entry
