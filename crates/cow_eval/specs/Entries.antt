@@ -1,13 +1,13 @@
 -- What a statement makes of an entry.
 use Rattle.std.specs.Prelude.{◌≡◌, ℕ, ◌+◌, ◌≤◌, ◌^◌, Bool, true, false, not, List, [], get_or, set, ⊤, Option, Some, None, Result, Ok, Err}
+use Rattle.cow_model.specs.Lexis.{Text}
 use Rattle.cow_model.specs.Operation.{Answer, fitting}
 use Rattle.cow_model.specs.Plain.{size}
 use Rattle.cow_model.specs.Purse.{Purse, RisesWithin}
-use Rattle.cow_model.specs.Lexis.{Text}
 use Rattle.cow_model.specs.Sharing.{alone_after, own_cost, key_cost}
+use Rattle.cow_model.specs.Step.{becomes, with_entry}
 use Rattle.cow_model.specs.declared.plain.Literal.{Literal}
 use Rattle.cow_model.specs.declared.memory.NoMemory.{NoMemory}
-use Rattle.cow_model.specs.Step.{becomes, with_entry}
 use Rattle.cow_model.specs.declared.outcome.Entry.{Entry}
 use Rattle.cow_model.specs.declared.outcome.Environment.{Environment}
 use Rattle.cow_model.specs.declared.outcome.Outcome.{Outcome}
