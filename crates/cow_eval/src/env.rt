@@ -1,11 +1,11 @@
 // The environment of a block.
-ghost use Rattle.std.specs.Prelude.{◌≡◌, ◌≤◌, ◌+◌, length, ◌++◌, ◌∷◌, [], map, true, is_some, IsOk, OnOk, OnErr};
+ghost use Rattle.std.specs.Prelude.{◌≡◌, ◌≤◌, ◌+◌, length, ◌++◌, ◌∷◌, [], true, is_some, IsOk, OnOk, OnErr};
 ghost use Rattle.cow_model.specs.Env as spec;
 ghost use Rattle.cow_model.specs.Plain.{count, max_count};
 ghost use Rattle.cow_model.specs.Step.{gives};
 ghost use Rattle.cow_kinds.specs.Seen.{units};
 ghost use Rattle.cow_kinds.specs.Values.{seen, plain_of, is_alone};
-ghost use Rattle.cow_eval.specs.Envs.{entry_of, env_of, IsBare, Balances};
+ghost use Rattle.cow_eval.specs.Envs.{env_of, IsBare, Balances};
 
 use crate::entry::Entry;
 use crate::names::find;

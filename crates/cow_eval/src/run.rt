@@ -14,9 +14,7 @@ ghost use Rattle.cow_eval.specs.Envs.{env_of, IsBare, Balances};
 
 use crate::both::change_by;
 use crate::env::Env;
-use crate::statement::{
-    ask, ask_both, assign, change, change_key, discard, make, pop, show, slice, sum,
-};
+use crate::statement::{ask, ask_both, assign, change_in, discard, make, pop, show, slice, sum};
 use cow_cell::{Holder, Stock};
 use cow_kinds::Element;
 use cow_model::{NoMemory, Statement};
@@ -117,7 +115,7 @@ fn changing<T: Element<Q>, Q: Stock>(
 {
     match statement {
         Statement::Insert { name, atom, .. } | Statement::Remove { name, atom, .. } => {
-            change_key(alloc, statement, name.as_slice(), atom, env, h, text)
+            change_in(alloc, statement, name.as_slice(), Some(atom), env, h, text)
         }
         Statement::Append { name, .. }
         | Statement::InsertAt { name, .. }
@@ -128,7 +126,7 @@ fn changing<T: Element<Q>, Q: Stock>(
         | Statement::Reserve { name, .. }
         | Statement::Clear { name, .. }
         | Statement::Rebase { name, .. } => {
-            change(alloc, statement, name.as_slice(), env, h, text)
+            change_in(alloc, statement, name.as_slice(), None, env, h, text)
         }
         _ => changing_by(statement, env, h, text),
     }

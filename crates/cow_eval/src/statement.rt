@@ -243,8 +243,8 @@ pub fn ask_both<T: Element<Q>, Q: Stock>(
     }
 }
 
-// A statement that changes one value, of which one key where there is one.
-fn change_in<T: Element<Q>, Q: Stock>(
+/// A statement that changes one value, of which one key where there is one.
+pub fn change_in<T: Element<Q>, Q: Stock>(
     alloc: Global,
     statement: &Statement,
     name: &[u8],
@@ -279,51 +279,6 @@ fn change_in<T: Element<Q>, Q: Stock>(
             refuse(text, why)
         }
     }
-}
-
-/// A statement that changes one value.
-pub fn change<T: Element<Q>, Q: Stock>(
-    alloc: Global,
-    statement: &Statement,
-    name: &[u8],
-    env: &mut Env<T, Q>,
-    h: &mut Holder<Q>,
-    text: &mut Vec<u8>,
-) -> Result<(), NoMemory>
-    requires texts { FitsTexts (out-Statement statement.now) }
-    requires few { literals (out-Statement statement.now) ≤ max_count }
-    requires spare { 2 ^ 40 ≤ h.old.spare }
-    ensures env { OnOk result (env_of env.new ≡ (spec.change (env_of env.old) name.now (change_of (out-Statement statement.now))).env) }
-    ensures text { OnOk result (text.new.items ≡ text.old.items ++ (spec.change (env_of env.old) name.now (change_of (out-Statement statement.now))).text) }
-    ensures err { OnErr result (text.new.items ≡ text.old.items) }
-    ensures most { OnErr result (env.new.allowed ≤ (spec.change (env_of env.old) name.now (change_of (out-Statement statement.now))).env.allowed) }
-    ensures paid { Paid (literals (out-Statement statement.now)) env.old env.new h.old h.new }
-    ensures bare { IsBare T.is_counted env.old.names → counted_in T.is_counted (out-Statement statement.now) ≡ 0 → OnOk result (Balances T.is_counted 0 env.old.names env.new.names h.old h.new) }
-{
-    change_in(alloc, statement, name, None, env, h, text)
-}
-
-/// A statement that changes one key.
-pub fn change_key<T: Element<Q>, Q: Stock>(
-    alloc: Global,
-    statement: &Statement,
-    name: &[u8],
-    key: &Literal,
-    env: &mut Env<T, Q>,
-    h: &mut Holder<Q>,
-    text: &mut Vec<u8>,
-) -> Result<(), NoMemory>
-    requires texts { FitsTexts (out-Statement statement.now) }
-    requires few { literals (out-Statement statement.now) ≤ max_count }
-    requires spare { 2 ^ 40 ≤ h.old.spare }
-    ensures env { OnOk result (env_of env.new ≡ (spec.change_key (env_of env.old) name.now key.now (change_of (out-Statement statement.now))).env) }
-    ensures text { OnOk result (text.new.items ≡ text.old.items ++ (spec.change_key (env_of env.old) name.now key.now (change_of (out-Statement statement.now))).text) }
-    ensures err { OnErr result (text.new.items ≡ text.old.items) }
-    ensures most { OnErr result (env.new.allowed ≤ (spec.change_key (env_of env.old) name.now key.now (change_of (out-Statement statement.now))).env.allowed) }
-    ensures paid { Paid (literals (out-Statement statement.now)) env.old env.new h.old h.new }
-    ensures bare { IsBare T.is_counted env.old.names → counted_in T.is_counted (out-Statement statement.now) ≡ 0 → OnOk result (Balances T.is_counted 0 env.old.names env.new.names h.old h.new) }
-{
-    change_in(alloc, statement, name, Some(key), env, h, text)
 }
 
 /// `pop N END`
