@@ -95,7 +95,7 @@ Says ended sink_failed census read written h Usage = (read ≡ []) × IsLine sin
 Says ended sink_failed census read written h (Script why) = IsFault ended read why × IsLine sink_failed written (fault_text why)
 Says ended sink_failed census read written h ReadFault = (length read ≤ max_bytes) × (written ≡ [])
 Says ended sink_failed census read written h WriteFault = OfScript ended read (HasRunInPart census written h)
-Says ended sink_failed census read written h NoMemory = (written ≡ []) ⊎ OfScript ended read (HasRunInPart census written h)
+Says ended sink_failed census read written h NoMemory = ((written ≡ []) × (h.copied ≡ 0)) ⊎ OfScript ended read (HasRunInPart census written h)
 Says ended sink_failed census read written h (NotYet line) = IsNotBuilt ended read line × IsLine sink_failed written (not_built_text line)
 
 -- what was read of the source and written to the sink is what the status says

@@ -43,10 +43,10 @@ fn options(words: &[&str]) -> Option<bool>
 ///   all units are back: no storage that the run made is held any more. `Leak` says the first two, and how many
 ///   units are back. It never comes of a script without texts.
 ///
-/// The holder afterwards has the number of items that were copied, which the census tells. After `Ok`, `Leak`
-/// and `WriteFault`, and after `NoMemory` where something was written, it is at most what the sharing rule allows
-/// the script (`bound`); after `Ok` and `Leak` it is at least what the script has to make (`least`). On `Usage`,
-/// `Script` and `NotYet` one line is written; a write that fails there leaves the status as it is.
+/// The holder afterwards has the number of items that were copied, which the census tells. After `Ok`, `Leak`,
+/// `WriteFault` and `NoMemory` it is at most what the sharing rule allows the script (`bound`), or nothing where
+/// none was run; after `Ok` and `Leak` it is at least what the script has to make (`least`). On `Usage`, `Script`
+/// and `NotYet` one line is written; a write that fails there leaves the status as it is.
 pub fn cowrun<Q: Stock, S: Source, K: Sink>(
     alloc: Global,
     words: &[&str],
