@@ -1,4 +1,6 @@
 pub mod Answers
 pub mod Atoms
+pub mod Held
 pub mod Seen
+pub mod Turns
 pub mod Values

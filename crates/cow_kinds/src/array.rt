@@ -1,24 +1,22 @@
 // The statements on arrays, each as its definition says. A refused one changes nothing and makes no
 // element.
-ghost use Rattle.std.specs.Prelude.{◌≡◌, ◌+◌, ◌*◌, ◌≤◌, [], ◌∷◌, ◌++◌, length, count_by, slice_get, All, true, IsOk, IfOk, OnOk, OnErr};
-ghost use Rattle.cow_model.specs.Flat.{need, Becomes};
-ghost use Rattle.cow_model.specs.Changes.{change_of, query_of};
+ghost use Rattle.std.specs.Prelude.{◌≡◌, ◌+◌, ◌≤◌, [], ◌∷◌, ◌++◌, length, count_by, All, IfOk, OnOk, OnErr};
+ghost use Rattle.cow_model.specs.Flat.{Becomes};
 ghost use Rattle.cow_model.specs.Literals.{FitsText};
 ghost use Rattle.cow_model.specs.Operation as spec;
-ghost use Rattle.cow_model.specs.Operation.{fitting};
 ghost use Rattle.cow_model.specs.Plain.{max_count, same_items};
 ghost use Rattle.cow_model.specs.Printed.{line, truth};
 ghost use Rattle.cow_model.specs.Purse.{Moves, less, noted};
 ghost use Rattle.cow_model.specs.declared.value.Plain.TheVariants as plain;
-ghost use Rattle.cow_model.specs.Sharing.{literals};
-ghost use Rattle.cow_model.specs.declared.statement.Statement.{out-Statement};
-ghost use Rattle.cow_kinds.specs.Answers.{verdict, is_refused, value_after, reply_of, told_verdict, told_reply};
-ghost use Rattle.cow_model.specs.Atoms.{FitsTexts, atoms_of};
-ghost use Rattle.cow_kinds.specs.Seen.{array, StaysAlone, Costs, PopCosts};
+ghost use Rattle.cow_kinds.specs.Seen.{array, literal, IsReady, Does, Costs};
+ghost use Rattle.cow_kinds.specs.Turns.{whole, keyed, popping};
 
+use crate::collection::Collection;
 use crate::element::Element;
+use crate::keeps;
+use crate::kinds::Kinds;
 use crate::lines::{put_element_at, put_number, put_truth};
-use crate::listed::Listed;
+use crate::listed::{Listed, put_list};
 use crate::positions::{MAX_COUNT, index, index_to_end, stretch};
 use crate::queries::get;
 use crate::reading::{end_all, read_all};
@@ -29,22 +27,17 @@ use cow_model::{Literal, NoMemory, Refusal, Side, Statement};
 use std::alloc::Global;
 
 /// `append N A`
-pub fn append<T: Element<Q>, Q: Stock>(
+fn append<T: Element<Q>, Q: Stock>(
     a: &mut Array<T, Q>,
     alloc: Global,
     atom: &Literal,
     h: &mut Holder<Q>,
 ) -> Result<Result<(), Refusal>, NoMemory>
     requires length { FitsText atom.now }
-    requires small { length a.old.value ≤ max_count }
-    requires spare { need (2 * (length a.old.value + 1) + 1) ≤ h.old.spare }
-    ensures answer { IfOk result (λ r. r ≡ verdict (fitting (spec.append atom.now (plain.Array a.old.value)))) }
-    ensures free { is_refused (fitting (spec.append atom.now (plain.Array a.old.value))) ≡ true → IsOk result × (h.new ≡ h.old) }
-    ensures value { OnOk result (plain.Array a.new.value ≡ value_after (plain.Array a.old.value) (fitting (spec.append atom.now (plain.Array a.old.value)))) }
-    ensures silent { reply_of (fitting (spec.append atom.now (plain.Array a.old.value))) ≡ [] }
-    ensures refused { OnErr result (a.new.value ≡ a.old.value) }
-    ensures alone { StaysAlone (array a.old) (array a.new) }
-    ensures paid { Costs T.is_counted (count_by T.is_counted (atom.now ∷ [])) 1 (array a.old) h.old h.new }
+    requires ready { IsReady 1 (array a.old) h.old }
+    ensures does { Does (whole (spec.append atom.now)) (array a.old) (array a.new) [] [] result }
+    ensures paid { Costs T.is_counted (literal T.is_counted (atom.now ∷ []))
+        (whole (spec.append atom.now)) (array a.old) (array a.new) h.old h.new result }
 {
     if a.count() >= MAX_COUNT {
         return Ok(Err(Refusal::Full));
@@ -60,7 +53,7 @@ pub fn append<T: Element<Q>, Q: Stock>(
 }
 
 /// `insert N I A`
-pub fn insert_at<T: Element<Q>, Q: Stock>(
+fn insert_at<T: Element<Q>, Q: Stock>(
     a: &mut Array<T, Q>,
     alloc: Global,
     i: i64,
@@ -68,15 +61,10 @@ pub fn insert_at<T: Element<Q>, Q: Stock>(
     h: &mut Holder<Q>,
 ) -> Result<Result<(), Refusal>, NoMemory>
     requires length { FitsText atom.now }
-    requires small { length a.old.value ≤ max_count }
-    requires spare { need (2 * (length a.old.value + 1) + 1) ≤ h.old.spare }
-    ensures answer { IfOk result (λ r. r ≡ verdict (fitting (spec.insert_at i atom.now (plain.Array a.old.value)))) }
-    ensures free { is_refused (fitting (spec.insert_at i atom.now (plain.Array a.old.value))) ≡ true → IsOk result × (h.new ≡ h.old) }
-    ensures value { OnOk result (plain.Array a.new.value ≡ value_after (plain.Array a.old.value) (fitting (spec.insert_at i atom.now (plain.Array a.old.value)))) }
-    ensures silent { reply_of (fitting (spec.insert_at i atom.now (plain.Array a.old.value))) ≡ [] }
-    ensures refused { OnErr result (a.new.value ≡ a.old.value) }
-    ensures alone { StaysAlone (array a.old) (array a.new) }
-    ensures paid { Costs T.is_counted (count_by T.is_counted (atom.now ∷ [])) 1 (array a.old) h.old h.new }
+    requires ready { IsReady 1 (array a.old) h.old }
+    ensures does { Does (whole (spec.insert_at i atom.now)) (array a.old) (array a.new) [] [] result }
+    ensures paid { Costs T.is_counted (literal T.is_counted (atom.now ∷ []))
+        (whole (spec.insert_at i atom.now)) (array a.old) (array a.new) h.old h.new result }
 {
     let Some(place) = index_to_end(a.count(), i) else {
         return Ok(Err(Refusal::OutOfRange));
@@ -95,7 +83,7 @@ pub fn insert_at<T: Element<Q>, Q: Stock>(
 }
 
 /// `set N I A`
-pub fn set<T: Element<Q>, Q: Stock>(
+fn set<T: Element<Q>, Q: Stock>(
     a: &mut Array<T, Q>,
     alloc: Global,
     i: i64,
@@ -103,15 +91,10 @@ pub fn set<T: Element<Q>, Q: Stock>(
     h: &mut Holder<Q>,
 ) -> Result<Result<(), Refusal>, NoMemory>
     requires length { FitsText atom.now }
-    requires small { length a.old.value ≤ max_count }
-    requires spare { need (2 * (length a.old.value + 1) + 1) ≤ h.old.spare }
-    ensures answer { IfOk result (λ r. r ≡ verdict (fitting (spec.set i atom.now (plain.Array a.old.value)))) }
-    ensures free { is_refused (fitting (spec.set i atom.now (plain.Array a.old.value))) ≡ true → IsOk result × (h.new ≡ h.old) }
-    ensures value { OnOk result (plain.Array a.new.value ≡ value_after (plain.Array a.old.value) (fitting (spec.set i atom.now (plain.Array a.old.value)))) }
-    ensures silent { reply_of (fitting (spec.set i atom.now (plain.Array a.old.value))) ≡ [] }
-    ensures refused { OnErr result (a.new.value ≡ a.old.value) }
-    ensures alone { StaysAlone (array a.old) (array a.new) }
-    ensures paid { Costs T.is_counted (count_by T.is_counted (atom.now ∷ [])) 1 (array a.old) h.old h.new }
+    requires ready { IsReady 1 (array a.old) h.old }
+    ensures does { Does (whole (spec.set i atom.now)) (array a.old) (array a.new) [] [] result }
+    ensures paid { Costs T.is_counted (literal T.is_counted (atom.now ∷ []))
+        (whole (spec.set i atom.now)) (array a.old) (array a.new) h.old h.new result }
 {
     let Some(place) = index(0, a.count(), i) else {
         return Ok(Err(Refusal::OutOfRange));
@@ -130,21 +113,16 @@ pub fn set<T: Element<Q>, Q: Stock>(
 }
 
 /// `swap N I J`
-pub fn swap<T: Element<Q>, Q: Stock>(
+fn swap<T: Element<Q>, Q: Stock>(
     a: &mut Array<T, Q>,
     i: i64,
     j: i64,
     h: &mut Holder<Q>,
 ) -> Result<Result<(), Refusal>, NoMemory>
-    requires small { length a.old.value ≤ max_count }
-    requires spare { need (2 * length a.old.value + 1) ≤ h.old.spare }
-    ensures answer { IfOk result (λ r. r ≡ verdict (fitting (spec.swap i j (plain.Array a.old.value)))) }
-    ensures free { is_refused (fitting (spec.swap i j (plain.Array a.old.value))) ≡ true → IsOk result × (h.new ≡ h.old) }
-    ensures value { OnOk result (plain.Array a.new.value ≡ value_after (plain.Array a.old.value) (fitting (spec.swap i j (plain.Array a.old.value)))) }
-    ensures silent { reply_of (fitting (spec.swap i j (plain.Array a.old.value))) ≡ [] }
-    ensures refused { OnErr result (a.new.value ≡ a.old.value) }
-    ensures alone { StaysAlone (array a.old) (array a.new) }
-    ensures paid { Costs T.is_counted 0 0 (array a.old) h.old h.new }
+    requires ready { IsReady 0 (array a.old) h.old }
+    ensures does { Does (whole (spec.swap i j)) (array a.old) (array a.new) [] [] result }
+    ensures paid { Costs T.is_counted (literal T.is_counted [])
+        (whole (spec.swap i j)) (array a.old) (array a.new) h.old h.new result }
 {
     let Some(first) = index(0, a.count(), i) else {
         return Ok(Err(Refusal::OutOfRange));
@@ -157,39 +135,29 @@ pub fn swap<T: Element<Q>, Q: Stock>(
 }
 
 /// `reverse N`
-pub fn reverse<T: Element<Q>, Q: Stock>(
+fn reverse<T: Element<Q>, Q: Stock>(
     a: &mut Array<T, Q>,
     h: &mut Holder<Q>,
 ) -> Result<Result<(), Refusal>, NoMemory>
-    requires small { length a.old.value ≤ max_count }
-    requires spare { need (2 * length a.old.value + 1) ≤ h.old.spare }
-    ensures answer { IfOk result (λ r. r ≡ verdict (fitting (spec.reversed (plain.Array a.old.value)))) }
-    ensures free { is_refused (fitting (spec.reversed (plain.Array a.old.value))) ≡ true → IsOk result × (h.new ≡ h.old) }
-    ensures value { OnOk result (plain.Array a.new.value ≡ value_after (plain.Array a.old.value) (fitting (spec.reversed (plain.Array a.old.value)))) }
-    ensures silent { reply_of (fitting (spec.reversed (plain.Array a.old.value))) ≡ [] }
-    ensures refused { OnErr result (a.new.value ≡ a.old.value) }
-    ensures alone { StaysAlone (array a.old) (array a.new) }
-    ensures paid { Costs T.is_counted 0 0 (array a.old) h.old h.new }
+    requires ready { IsReady 0 (array a.old) h.old }
+    ensures does { Does (whole spec.reversed) (array a.old) (array a.new) [] [] result }
+    ensures paid { Costs T.is_counted (literal T.is_counted [])
+        (whole spec.reversed) (array a.old) (array a.new) h.old h.new result }
 {
     a.reverse(h)?;
     Ok(Ok(()))
 }
 
 /// `reserve N C`: room for C more elements.
-pub fn reserve<T: Element<Q>, Q: Stock>(
+fn reserve<T: Element<Q>, Q: Stock>(
     a: &mut Array<T, Q>,
     c: i64,
     h: &mut Holder<Q>,
 ) -> Result<Result<(), Refusal>, NoMemory>
-    requires small { length a.old.value ≤ max_count }
-    requires spare { need (2 * length a.old.value + 1) ≤ h.old.spare }
-    ensures answer { IfOk result (λ r. r ≡ verdict (fitting (spec.reserve c (plain.Array a.old.value)))) }
-    ensures free { is_refused (fitting (spec.reserve c (plain.Array a.old.value))) ≡ true → IsOk result × (h.new ≡ h.old) }
-    ensures value { OnOk result (plain.Array a.new.value ≡ value_after (plain.Array a.old.value) (fitting (spec.reserve c (plain.Array a.old.value)))) }
-    ensures silent { reply_of (fitting (spec.reserve c (plain.Array a.old.value))) ≡ [] }
-    ensures refused { OnErr result (a.new.value ≡ a.old.value) }
-    ensures alone { StaysAlone (array a.old) (array a.new) }
-    ensures paid { Costs T.is_counted 0 0 (array a.old) h.old h.new }
+    requires ready { IsReady 0 (array a.old) h.old }
+    ensures does { Does (whole (spec.reserve c)) (array a.old) (array a.new) [] [] result }
+    ensures paid { Costs T.is_counted (literal T.is_counted [])
+        (whole (spec.reserve c)) (array a.old) (array a.new) h.old h.new result }
 {
     let Some(more) = index_to_end(MAX_COUNT, c) else {
         return Ok(Err(Refusal::OutOfRange));
@@ -199,40 +167,30 @@ pub fn reserve<T: Element<Q>, Q: Stock>(
 }
 
 /// `clear N`
-pub fn clear<T: Element<Q>, Q: Stock>(
+fn clear<T: Element<Q>, Q: Stock>(
     a: &mut Array<T, Q>,
     h: &mut Holder<Q>,
 ) -> Result<Result<(), Refusal>, NoMemory>
-    requires small { length a.old.value ≤ max_count }
-    requires spare { need (2 * length a.old.value + 1) ≤ h.old.spare }
-    ensures answer { IfOk result (λ r. r ≡ verdict (fitting (spec.clear (plain.Array a.old.value)))) }
-    ensures free { is_refused (fitting (spec.clear (plain.Array a.old.value))) ≡ true → IsOk result × (h.new ≡ h.old) }
-    ensures value { OnOk result (plain.Array a.new.value ≡ value_after (plain.Array a.old.value) (fitting (spec.clear (plain.Array a.old.value)))) }
-    ensures silent { reply_of (fitting (spec.clear (plain.Array a.old.value))) ≡ [] }
-    ensures refused { OnErr result (a.new.value ≡ a.old.value) }
-    ensures alone { StaysAlone (array a.old) (array a.new) }
-    ensures paid { Costs T.is_counted 0 0 (array a.old) h.old h.new }
+    requires ready { IsReady 0 (array a.old) h.old }
+    ensures does { Does (whole spec.clear) (array a.old) (array a.new) [] [] result }
+    ensures paid { Costs T.is_counted (literal T.is_counted [])
+        (whole spec.clear) (array a.old) (array a.new) h.old h.new result }
 {
     a.clear(h)?;
     Ok(Ok(()))
 }
 
 /// `remove N X`
-pub fn remove<T: Element<Q>, Q: Stock>(
+fn remove<T: Element<Q>, Q: Stock>(
     a: &mut Array<T, Q>,
     x: &Literal,
     text: &mut Vec<u8>,
     h: &mut Holder<Q>,
 ) -> Result<Result<(), Refusal>, NoMemory>
-    requires small { length a.old.value ≤ max_count }
-    requires spare { need (2 * (length a.old.value + 1) + 1) ≤ h.old.spare }
-    ensures answer { IfOk result (λ r. r ≡ verdict (fitting (spec.remove x.now (plain.Array a.old.value)))) }
-    ensures free { is_refused (fitting (spec.remove x.now (plain.Array a.old.value))) ≡ true → IsOk result × (h.new ≡ h.old) }
-    ensures value { OnOk result (plain.Array a.new.value ≡ value_after (plain.Array a.old.value) (fitting (spec.remove x.now (plain.Array a.old.value)))) }
-    ensures reply { OnOk result (text.new.items ≡ text.old.items ++ reply_of (fitting (spec.remove x.now (plain.Array a.old.value)))) }
-    ensures refused { OnErr result ((a.new.value ≡ a.old.value) × (text.new.items ≡ text.old.items)) }
-    ensures alone { StaysAlone (array a.old) (array a.new) }
-    ensures paid { Costs T.is_counted (count_by T.is_counted (x.now ∷ [])) 1 (array a.old) h.old h.new }
+    requires ready { IsReady 1 (array a.old) h.old }
+    ensures does { Does (keyed x.now (spec.remove x.now)) (array a.old) (array a.new) text.old.items text.new.items result }
+    ensures paid { Costs T.is_counted (literal T.is_counted (x.now ∷ []))
+        (keyed x.now (spec.remove x.now)) (array a.old) (array a.new) h.old h.new result }
 {
     let Literal::Int(i) = x else {
         return Ok(Err(Refusal::WrongKind));
@@ -255,21 +213,16 @@ pub fn remove<T: Element<Q>, Q: Stock>(
 }
 
 /// `pop N END`
-pub fn pop<T: Element<Q>, Q: Stock>(
+fn pop<T: Element<Q>, Q: Stock>(
     a: &mut Array<T, Q>,
     side: Side,
     text: &mut Vec<u8>,
     h: &mut Holder<Q>,
 ) -> Result<Result<(), Refusal>, NoMemory>
-    requires small { length a.old.value ≤ max_count }
-    requires spare { need (2 * length a.old.value + 1) ≤ h.old.spare }
-    ensures answer { IfOk result (λ r. r ≡ verdict (fitting (spec.pop side (plain.Array a.old.value)))) }
-    ensures free { is_refused (fitting (spec.pop side (plain.Array a.old.value))) ≡ true → IsOk result × (h.new ≡ h.old) }
-    ensures value { OnOk result (plain.Array a.new.value ≡ value_after (plain.Array a.old.value) (fitting (spec.pop side (plain.Array a.old.value)))) }
-    ensures reply { OnOk result (text.new.items ≡ text.old.items ++ reply_of (fitting (spec.pop side (plain.Array a.old.value)))) }
-    ensures refused { OnErr result ((a.new.value ≡ a.old.value) × (text.new.items ≡ text.old.items)) }
-    ensures alone { StaysAlone (array a.old) (array a.new) }
-    ensures paid { PopCosts T.is_counted (array a.old) h.old h.new }
+    requires ready { IsReady 0 (array a.old) h.old }
+    ensures does { Does (popping side) (array a.old) (array a.new) text.old.items text.new.items result }
+    ensures paid { Costs T.is_counted (literal T.is_counted [])
+        (popping side) (array a.old) (array a.new) h.old h.new result }
 {
     let Side::Last = side else {
         return Ok(Err(Refusal::WrongKind));
@@ -290,7 +243,7 @@ pub fn pop<T: Element<Q>, Q: Stock>(
 }
 
 /// `splice N I J A*`
-pub fn splice<T: Element<Q>, Q: Stock>(
+fn splice<T: Element<Q>, Q: Stock>(
     a: &mut Array<T, Q>,
     alloc: Global,
     i: i64,
@@ -299,15 +252,10 @@ pub fn splice<T: Element<Q>, Q: Stock>(
     h: &mut Holder<Q>,
 ) -> Result<Result<(), Refusal>, NoMemory>
     requires texts { All FitsText atoms.now }
-    requires small { length a.old.value ≤ max_count }
-    requires spare { need (2 * (length a.old.value + length atoms.now) + 1) ≤ h.old.spare }
-    ensures answer { IfOk result (λ r. r ≡ verdict (fitting (spec.splice i j atoms.now (plain.Array a.old.value)))) }
-    ensures free { is_refused (fitting (spec.splice i j atoms.now (plain.Array a.old.value))) ≡ true → IsOk result × (h.new ≡ h.old) }
-    ensures value { OnOk result (plain.Array a.new.value ≡ value_after (plain.Array a.old.value) (fitting (spec.splice i j atoms.now (plain.Array a.old.value)))) }
-    ensures silent { reply_of (fitting (spec.splice i j atoms.now (plain.Array a.old.value))) ≡ [] }
-    ensures refused { OnErr result (a.new.value ≡ a.old.value) }
-    ensures alone { StaysAlone (array a.old) (array a.new) }
-    ensures paid { Costs T.is_counted (count_by T.is_counted atoms.now) (length atoms.now) (array a.old) h.old h.new }
+    requires ready { IsReady (length atoms.now) (array a.old) h.old }
+    ensures does { Does (whole (spec.splice i j atoms.now)) (array a.old) (array a.new) [] [] result }
+    ensures paid { Costs T.is_counted (literal T.is_counted atoms.now)
+        (whole (spec.splice i j atoms.now)) (array a.old) (array a.new) h.old h.new result }
 {
     let Some((from, to)) = stretch(a.count(), i, j) else {
         return Ok(Err(Refusal::OutOfRange));
@@ -326,80 +274,24 @@ pub fn splice<T: Element<Q>, Q: Stock>(
 }
 
 /// `extend N M`
-pub fn extend<T: Element<Q>, Q: Stock>(
+fn extend<T: Element<Q>, Q: Stock>(
     a: &mut Array<T, Q>,
     other: &Array<T, Q>,
     h: &mut Holder<Q>,
 ) -> Result<Result<(), Refusal>, NoMemory>
-    requires other_small { length other.now.value ≤ max_count }
-    requires small { length a.old.value ≤ max_count }
-    requires spare { need (2 * (length a.old.value + length other.now.value) + 1) ≤ h.old.spare }
-    ensures answer { IfOk result (λ r. r ≡ verdict (fitting (spec.extend (plain.Array a.old.value) (plain.Array other.now.value)))) }
-    ensures free { is_refused (fitting (spec.extend (plain.Array a.old.value) (plain.Array other.now.value))) ≡ true → IsOk result × (h.new ≡ h.old) }
-    ensures value { OnOk result (plain.Array a.new.value ≡ value_after (plain.Array a.old.value) (fitting (spec.extend (plain.Array a.old.value) (plain.Array other.now.value)))) }
-    ensures silent { reply_of (fitting (spec.extend (plain.Array a.old.value) (plain.Array other.now.value))) ≡ [] }
-    ensures refused { OnErr result (a.new.value ≡ a.old.value) }
-    ensures alone { StaysAlone (array a.old) (array a.new) }
-    ensures paid { Costs T.is_counted (count_by T.is_counted other.now.value) (length other.now.value) (array a.old) h.old h.new }
+    requires small { length other.now.value ≤ max_count }
+    requires ready { IsReady (length other.now.value) (array a.old) h.old }
+    ensures does { Does (whole (λ v. spec.extend v (plain.Array other.now.value)))
+        (array a.old) (array a.new) [] [] result }
+    ensures paid { Costs T.is_counted (literal T.is_counted other.now.value)
+        (whole (λ v. spec.extend v (plain.Array other.now.value)))
+        (array a.old) (array a.new) h.old h.new result }
 {
     if other.count() > MAX_COUNT - a.count() {
         return Ok(Err(Refusal::Full));
     }
     a.extend(other, h)?;
     Ok(Ok(()))
-}
-
-/// A statement that changes one value, on an array.
-pub fn change<T: Element<Q>, Q: Stock>(
-    a: &mut Array<T, Q>,
-    alloc: Global,
-    statement: &Statement,
-    text: &mut Vec<u8>,
-    h: &mut Holder<Q>,
-) -> Result<Result<(), Refusal>, NoMemory>
-    requires texts { FitsTexts (out-Statement statement.now) }
-    requires small { length a.old.value ≤ max_count }
-    requires spare { need (2 * (length a.old.value + literals (out-Statement statement.now)) + 1) ≤ h.old.spare }
-    ensures answer { IfOk result (λ r. r ≡ verdict (fitting (change_of (out-Statement statement.now) (plain.Array a.old.value)))) }
-    ensures free { is_refused (fitting (change_of (out-Statement statement.now) (plain.Array a.old.value))) ≡ true → IsOk result × (h.new ≡ h.old) }
-    ensures value { OnOk result (plain.Array a.new.value ≡ value_after (plain.Array a.old.value) (fitting (change_of (out-Statement statement.now) (plain.Array a.old.value)))) }
-    ensures reply { OnOk result (text.new.items ≡ text.old.items ++ reply_of (fitting (change_of (out-Statement statement.now) (plain.Array a.old.value)))) }
-    ensures refused { OnErr result ((a.new.value ≡ a.old.value) × (text.new.items ≡ text.old.items)) }
-    ensures alone { StaysAlone (array a.old) (array a.new) }
-    ensures paid { Costs T.is_counted (count_by T.is_counted (atoms_of (out-Statement statement.now))) (literals (out-Statement statement.now)) (array a.old) h.old h.new }
-{
-    match statement {
-        Statement::Append { atom, .. } => append(a, alloc, atom, h),
-        Statement::InsertAt { i, atom, .. } => insert_at(a, alloc, *i, atom, h),
-        Statement::Remove { atom, .. } => remove(a, atom, text, h),
-        Statement::Set { i, atom, .. } => set(a, alloc, *i, atom, h),
-        Statement::Swap { i, j, .. } => swap(a, *i, *j, h),
-        Statement::Reverse { .. } => reverse(a, h),
-        Statement::Splice { i, j, atoms, .. } => splice(a, alloc, *i, *j, atoms.as_slice(), h),
-        Statement::Reserve { c, .. } => reserve(a, *c, h),
-        Statement::Clear { .. } => clear(a, h),
-        _ => Ok(Err(Refusal::WrongKind)),
-    }
-}
-
-/// A statement that reads one value, on an array.
-pub fn tell<T: Element<Q>, Q: Stock>(
-    a: &Array<T, Q>,
-    statement: &Statement,
-    text: &mut Vec<u8>,
-) -> Result<Result<(), Refusal>, NoMemory>
-    ensures answer { IfOk result (λ r. r ≡ told_verdict (query_of (out-Statement statement.now) (plain.Array a.now.value))) }
-    ensures reply { OnOk result (text.new.items ≡ text.old.items ++ told_reply (query_of (out-Statement statement.now) (plain.Array a.now.value))) }
-    ensures refused { OnErr result (text.new.items ≡ text.old.items) }
-{
-    match statement {
-        Statement::Count { .. } => {
-            put_number(a.count(), text)?;
-            Ok(Ok(()))
-        }
-        Statement::Get { atom, .. } => get(a, 0, atom, text),
-        _ => Ok(Err(Refusal::WrongKind)),
-    }
 }
 
 /// `let N = array A*`. Each atom counts one copy.
@@ -429,7 +321,7 @@ pub fn make<T: Element<Q>, Q: Stock>(
 }
 
 /// `equal N M`
-pub fn equal<T: Element<Q>, Q: Stock>(
+fn equal<T: Element<Q>, Q: Stock>(
     a: &Array<T, Q>,
     other: &Array<T, Q>,
     text: &mut Vec<u8>,
@@ -438,6 +330,140 @@ pub fn equal<T: Element<Q>, Q: Stock>(
     ensures err { OnErr result (text.new.items ≡ text.old.items) }
 {
     put_truth(a.equals(other), text)
+}
+
+impl<T: Element<Q>, Q: Stock> Collection<T, Q> for Array<T, Q> {
+    ghost seen = { array };
+
+    fn count(&self) -> usize {
+        self.count()
+    }
+
+    fn size(&self) -> usize {
+        self.count()
+    }
+
+    fn stop(&self) -> usize {
+        self.count()
+    }
+
+    fn copy(&mut self, h: &mut Holder<Q>) -> Array<T, Q> {
+        self.copy(h)
+    }
+
+    fn settle(&mut self) {
+        self.settle();
+    }
+
+    fn end(self, h: &mut Holder<Q>) {
+        self.end(h);
+    }
+
+    fn put(&self, text: &mut Vec<u8>) -> Result<(), NoMemory> {
+        put_list(self, text)
+    }
+
+    fn change(
+        &mut self,
+        alloc: Global,
+        statement: &Statement,
+        text: &mut Vec<u8>,
+        h: &mut Holder<Q>,
+    ) -> Result<Result<(), Refusal>, NoMemory> {
+        match statement {
+            Statement::Append { atom, .. } => append(self, alloc, atom, h),
+            Statement::InsertAt { i, atom, .. } => insert_at(self, alloc, *i, atom, h),
+            Statement::Remove { atom, .. } => remove(self, atom, text, h),
+            Statement::Set { i, atom, .. } => set(self, alloc, *i, atom, h),
+            Statement::Pop { side, .. } => pop(self, *side, text, h),
+            Statement::Swap { i, j, .. } => swap(self, *i, *j, h),
+            Statement::Reverse { .. } => reverse(self, h),
+            Statement::Splice { i, j, atoms, .. } => {
+                splice(self, alloc, *i, *j, atoms.as_slice(), h)
+            }
+            Statement::Reserve { c, .. } => reserve(self, *c, h),
+            Statement::Clear { .. } => clear(self, h),
+            _ => Ok(Err(Refusal::WrongKind)),
+        }
+    }
+
+    fn change_by(
+        &mut self,
+        statement: &Statement,
+        other: &Kinds<T, Q>,
+        h: &mut Holder<Q>,
+    ) -> Result<Result<(), Refusal>, NoMemory> {
+        match (statement, other) {
+            (Statement::Extend { .. }, Kinds::Array(other)) => extend(self, other, h),
+            _ => Ok(Err(Refusal::WrongKind)),
+        }
+    }
+
+    fn parts(&self, statement: &Statement) -> bool {
+        match statement {
+            Statement::Set { i, atom, .. } => !keeps::set(self, 0, *i, atom),
+            Statement::Swap { i, j, .. } => !keeps::swap(self, *i, *j),
+            Statement::Reverse { .. } => !keeps::is_palindrome(self),
+            Statement::Splice { i, j, atoms, .. } => {
+                !keeps::splice(self, *i, *j, atoms.as_slice())
+            }
+            Statement::Reserve { .. } => false,
+            Statement::Clear { .. } | Statement::Pop { .. } => self.count() != 0,
+            _ => true,
+        }
+    }
+
+    fn parts_by(&self, statement: &Statement, other: &Kinds<T, Q>) -> bool {
+        match (statement, other) {
+            (Statement::Extend { .. }, Kinds::Array(other)) => other.count() != 0,
+            _ => true,
+        }
+    }
+
+    fn cost(&self, _statement: &Statement, alone: bool) -> usize {
+        if alone { 0 } else { self.count() }
+    }
+
+    fn both_cost(&self, alone: bool) -> usize {
+        if alone { 0 } else { self.count() }
+    }
+
+    fn tell(
+        &self,
+        statement: &Statement,
+        text: &mut Vec<u8>,
+    ) -> Result<Result<(), Refusal>, NoMemory> {
+        match statement {
+            Statement::Count { .. } => {
+                put_number(self.count(), text)?;
+                Ok(Ok(()))
+            }
+            Statement::Get { atom, .. } => get(self, 0, atom, text),
+            _ => Ok(Err(Refusal::WrongKind)),
+        }
+    }
+
+    fn tell_both(
+        &self,
+        statement: &Statement,
+        other: &Kinds<T, Q>,
+        text: &mut Vec<u8>,
+    ) -> Result<Result<(), Refusal>, NoMemory> {
+        match (statement, other) {
+            (Statement::Equal { .. }, Kinds::Array(other)) => {
+                equal(self, other, text)?;
+                Ok(Ok(()))
+            }
+            _ => Ok(Err(Refusal::WrongKind)),
+        }
+    }
+
+    fn slice(&mut self, i: i64, j: i64, h: &mut Holder<Q>) -> Result<Kinds<T, Q>, Refusal> {
+        let Some((from, to)) = stretch(self.count(), i, j) else {
+            return Err(Refusal::OutOfRange);
+        };
+        Ok(Kinds::Slice(self.slice(from, to, h)))
+    }
 }
 
 impl<T: Element<Q>, Q: Stock> Listed<T, Q> for Array<T, Q> {

@@ -2,23 +2,15 @@
 // made.
 ghost use Rattle.std.specs.Prelude.{◌≡◌, ◌-◌, ◌≤◌, ◌↔◌, ◌++◌, take, drop, reverse, length, slice_get, slice_set, Some, IfSome, IsTrue};
 ghost use Rattle.std.specs.List as lists;
-ghost use Rattle.cow_model.specs.Changes.{change_of, change_by_of};
 ghost use Rattle.cow_model.specs.Operation as spec;
-ghost use Rattle.cow_model.specs.Operation.{fitting};
 ghost use Rattle.cow_model.specs.Plain.{same_items};
-ghost use Rattle.cow_model.specs.declared.statement.Statement.{out-Statement};
-ghost use Rattle.cow_model.specs.declared.value.Plain.TheVariants as plain;
-ghost use Rattle.cow_kinds.specs.Answers.{TellsSame};
-ghost use Rattle.cow_kinds.specs.Values.{plain_of};
 
 use crate::element::Element;
 use crate::listed::Listed;
 use crate::positions::{index, stretch};
-use crate::value::Value;
-use cow_array::{Array, ArraySlice};
 use cow_cell::Stock;
 use cow_item::Key;
-use cow_model::{Literal, Side, Statement};
+use cow_model::Literal;
 
 // Whether the element at a place is the atom.
 fn is_at<T: Element<Q>, Q: Stock, L: Listed<T, Q>>(list: &L, place: usize, atom: &Literal) -> bool
@@ -42,7 +34,7 @@ fn agree<T: Element<Q>, Q: Stock, L: Listed<T, Q>>(list: &L, i: usize, j: usize)
 }
 
 // Whether the list is the same in the opposite order.
-fn is_palindrome<T: Element<Q>, Q: Stock, L: Listed<T, Q>>(list: &L) -> bool
+pub fn is_palindrome<T: Element<Q>, Q: Stock, L: Listed<T, Q>>(list: &L) -> bool
     ensures { IsTrue result ↔ (L.elements list.now ≡ reverse (L.elements list.now)) }
 {
     let n = list.size();
@@ -77,7 +69,7 @@ fn shows<T: Element<Q>, Q: Stock, L: Listed<T, Q>>(
 }
 
 // `set N I A`, of a list whose first element has the index `start`
-fn set<T: Element<Q>, Q: Stock, L: Listed<T, Q>>(
+pub fn set<T: Element<Q>, Q: Stock, L: Listed<T, Q>>(
     list: &L,
     start: usize,
     i: i64,
@@ -92,7 +84,7 @@ fn set<T: Element<Q>, Q: Stock, L: Listed<T, Q>>(
 }
 
 // `swap N I J`
-fn swap<T: Element<Q>, Q: Stock, L: Listed<T, Q>>(list: &L, i: i64, j: i64) -> bool
+pub fn swap<T: Element<Q>, Q: Stock, L: Listed<T, Q>>(list: &L, i: i64, j: i64) -> bool
     ensures { IfSome (spec.index 0 (length (L.elements list.now)) i) (λ k. IfSome (spec.index 0 (length (L.elements list.now)) j) (λ m. result ≡ same_items (L.elements list.now) (lists.swap (L.elements list.now) k m))) }
 {
     match (index(0, list.size(), i), index(0, list.size(), j)) {
@@ -102,7 +94,7 @@ fn swap<T: Element<Q>, Q: Stock, L: Listed<T, Q>>(list: &L, i: i64, j: i64) -> b
 }
 
 // `splice N I J A*`
-fn splice<T: Element<Q>, Q: Stock, L: Listed<T, Q>>(
+pub fn splice<T: Element<Q>, Q: Stock, L: Listed<T, Q>>(
     list: &L,
     i: i64,
     j: i64,
@@ -113,62 +105,5 @@ fn splice<T: Element<Q>, Q: Stock, L: Listed<T, Q>>(
     match stretch(list.size(), i, j) {
         Some((from, to)) => shows(list, from, to, atoms),
         None => false,
-    }
-}
-
-// A statement that changes one value, on an array.
-fn array<T: Element<Q>, Q: Stock>(a: &Array<T, Q>, statement: &Statement) -> bool
-    ensures { TellsSame result (plain.Array a.now.value) (change_of (out-Statement statement.now) (plain.Array a.now.value)) }
-{
-    match statement {
-        Statement::Set { i, atom, .. } => set(a, 0, *i, atom),
-        Statement::Swap { i, j, .. } => swap(a, *i, *j),
-        Statement::Reverse { .. } => is_palindrome(a),
-        Statement::Splice { i, j, atoms, .. } => splice(a, *i, *j, atoms.as_slice()),
-        Statement::Reserve { .. } => true,
-        Statement::Clear { .. } => a.count() == 0,
-        _ => false,
-    }
-}
-
-// The same on a slice. One that makes an array of it makes another value.
-fn slice<T: Element<Q>, Q: Stock>(s: &ArraySlice<T, Q>, statement: &Statement) -> bool
-    ensures { TellsSame result (plain.Slice s.now.value.start s.now.value.items) (change_of (out-Statement statement.now) (plain.Slice s.now.value.start s.now.value.items)) }
-{
-    match statement {
-        Statement::Set { i, atom, .. } => set(s, s.start(), *i, atom),
-        _ => false,
-    }
-}
-
-impl<T: Element<Q>, Q: Stock> Value<T, Q> {
-    /// Whether a statement that changes one value leaves it the same, if it isn't refused. At most linear in
-    /// its elements, of which none is made.
-    pub fn keeps(&self, statement: &Statement) -> bool
-        ensures { TellsSame result (plain_of self.now) (fitting (change_of (out-Statement statement.now) (plain_of self.now))) }
-    {
-        match self {
-            Value::Array(a) => array(a, statement),
-            Value::Slice(s) => slice(s, statement),
-        }
-    }
-
-    /// Whether `pop N END` leaves it the same, if it isn't refused: exactly where there is nothing to pop.
-    pub fn keeps_pop(&self, side: Side) -> bool
-        ensures { TellsSame result (plain_of self.now) (fitting (spec.pop side (plain_of self.now))) }
-    {
-        self.count() == 0
-    }
-
-    /// Whether a statement that changes it by another value leaves it the same, if it isn't refused.
-    pub fn keeps_by(&self, statement: &Statement, other: &Value<T, Q>) -> bool
-        ensures { TellsSame result (plain_of self.now) (fitting (change_by_of (out-Statement statement.now) (plain_of self.now) (plain_of other.now))) }
-    {
-        match (self, statement, other) {
-            (Value::Array(_), Statement::Extend { .. }, Value::Array(others)) => {
-                others.count() == 0
-            }
-            _ => false,
-        }
     }
 }

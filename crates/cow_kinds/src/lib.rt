@@ -22,8 +22,10 @@
 #![tactic(auto)]
 
 mod array;
+mod collection;
 mod element;
 mod keeps;
+mod kinds;
 mod lines;
 mod listed;
 mod positions;
@@ -32,8 +34,7 @@ mod reading;
 mod slice;
 mod value;
 
+pub use collection::Collection;
 pub use element::Element;
+pub use kinds::Kinds;
 pub use value::Value;
-
-#[cfg(test)]
-mod tests;

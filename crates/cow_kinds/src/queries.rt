@@ -1,7 +1,6 @@
 // What statements that only read print of a list of elements.
-ghost use Rattle.std.specs.Prelude.{◌≡◌, ◌++◌, IfOk, OnOk, OnErr};
 ghost use Rattle.cow_model.specs.Query as spec;
-ghost use Rattle.cow_kinds.specs.Answers.{told_verdict, told_reply};
+ghost use Rattle.cow_kinds.specs.Seen.{Tells};
 
 use crate::element::Element;
 use crate::lines::put_element_at;
@@ -17,9 +16,7 @@ pub fn get<T: Element<Q>, Q: Stock, L: Listed<T, Q>>(
     x: &Literal,
     text: &mut Vec<u8>,
 ) -> Result<Result<(), Refusal>, NoMemory>
-    ensures answer { IfOk result (λ r. r ≡ told_verdict (spec.get_at start x.now (L.elements list.now))) }
-    ensures reply { OnOk result (text.new.items ≡ text.old.items ++ told_reply (spec.get_at start x.now (L.elements list.now))) }
-    ensures refused { OnErr result (text.new.items ≡ text.old.items) }
+    ensures { Tells (spec.get_at start x.now (L.elements list.now)) text.old.items text.new.items result }
 {
     let Literal::Int(i) = x else {
         return Ok(Err(Refusal::WrongKind));

@@ -1,24 +1,19 @@
 // The statements on slices, each as its definition says. A refused one changes nothing and makes no
 // element.
-ghost use Rattle.std.specs.Prelude.{◌≡◌, ◌+◌, ◌*◌, ◌^◌, ◌<◌, ◌≤◌, true, false, [], ◌∷◌, ◌++◌, length, count_by, IsOk, IfOk, OnOk, OnErr};
-ghost use Rattle.cow_model.specs.Flat.{need};
-ghost use Rattle.cow_model.specs.Changes.{change_of, query_of};
+ghost use Rattle.std.specs.Prelude.{◌≡◌, [], ◌∷◌, ◌++◌, OnOk, OnErr};
 ghost use Rattle.cow_model.specs.Literals.{FitsText};
 ghost use Rattle.cow_model.specs.Operation as spec;
-ghost use Rattle.cow_model.specs.Operation.{fitting};
-ghost use Rattle.cow_model.specs.Plain.{max_count, same_items};
+ghost use Rattle.cow_model.specs.Plain.{same_items};
 ghost use Rattle.cow_model.specs.Printed.{line, truth};
-ghost use Rattle.cow_model.specs.declared.value.Plain.TheVariants as plain;
-ghost use Rattle.cow_model.specs.Sharing.{literals};
-ghost use Rattle.cow_model.specs.declared.statement.Statement.{out-Statement};
-ghost use Rattle.cow_kinds.specs.Answers.{verdict, is_refused, value_after, reply_of, told_verdict, told_reply};
-ghost use Rattle.cow_kinds.specs.Atoms.{is_rebase};
-ghost use Rattle.cow_model.specs.Atoms.{FitsTexts, atoms_of};
-ghost use Rattle.cow_kinds.specs.Seen.{slice, StaysAlone, Costs, PopCosts};
+ghost use Rattle.cow_kinds.specs.Seen.{slice, literal, IsReady, Does, Costs};
+ghost use Rattle.cow_kinds.specs.Turns.{whole, popping};
 
+use crate::collection::Collection;
 use crate::element::Element;
+use crate::keeps;
+use crate::kinds::Kinds;
 use crate::lines::{put_element_at, put_number, put_truth};
-use crate::listed::Listed;
+use crate::listed::{Listed, put_list_from};
 use crate::positions::{MAX_COUNT, index};
 use crate::queries::get;
 use cow_array::ArraySlice;
@@ -28,24 +23,17 @@ use cow_model::{Literal, NoMemory, Refusal, Side, Statement};
 use std::alloc::Global;
 
 /// `append N A`
-pub fn append<T: Element<Q>, Q: Stock>(
+fn append<T: Element<Q>, Q: Stock>(
     s: &mut ArraySlice<T, Q>,
     alloc: Global,
     atom: &Literal,
     h: &mut Holder<Q>,
 ) -> Result<Result<(), Refusal>, NoMemory>
-    requires small { length s.old.value.items ≤ max_count }
-    requires stop { s.old.value.start + length s.old.value.items < 2 ^ 31 }
     requires length { FitsText atom.now }
-    requires spare { need (2 * (length s.old.value.items + 1) + 1) ≤ h.old.spare }
-    ensures answer { IfOk result (λ r. r ≡ verdict (fitting (spec.append atom.now (plain.Slice s.old.value.start s.old.value.items)))) }
-    ensures free { is_refused (fitting (spec.append atom.now (plain.Slice s.old.value.start s.old.value.items))) ≡ true → IsOk result × (h.new ≡ h.old) }
-    ensures value { OnOk result (plain.Slice s.new.value.start s.new.value.items ≡ value_after (plain.Slice s.old.value.start s.old.value.items) (fitting (spec.append atom.now (plain.Slice s.old.value.start s.old.value.items)))) }
-    ensures silent { reply_of (fitting (spec.append atom.now (plain.Slice s.old.value.start s.old.value.items))) ≡ [] }
-    ensures refused { OnErr result ((s.new.value.start ≡ s.old.value.start) × (s.new.value.items ≡ s.old.value.items)) }
-    ensures alone { StaysAlone (slice s.old) (slice s.new) }
-    ensures hidden { s.new.value.units ≤ s.old.value.units + count_by T.is_counted (atom.now ∷ []) }
-    ensures paid { Costs T.is_counted (count_by T.is_counted (atom.now ∷ [])) 1 (slice s.old) h.old h.new }
+    requires ready { IsReady 1 (slice s.old) h.old }
+    ensures does { Does (whole (spec.append atom.now)) (slice s.old) (slice s.new) [] [] result }
+    ensures paid { Costs T.is_counted (literal T.is_counted (atom.now ∷ []))
+        (whole (spec.append atom.now)) (slice s.old) (slice s.new) h.old h.new result }
 {
     if s.count() >= MAX_COUNT {
         return Ok(Err(Refusal::Full));
@@ -61,24 +49,18 @@ pub fn append<T: Element<Q>, Q: Stock>(
 }
 
 /// `set N I A`
-pub fn set<T: Element<Q>, Q: Stock>(
+fn set<T: Element<Q>, Q: Stock>(
     s: &mut ArraySlice<T, Q>,
     alloc: Global,
     i: i64,
     atom: &Literal,
     h: &mut Holder<Q>,
 ) -> Result<Result<(), Refusal>, NoMemory>
-    requires small { length s.old.value.items ≤ max_count }
     requires length { FitsText atom.now }
-    requires spare { need (2 * (length s.old.value.items + 1) + 1) ≤ h.old.spare }
-    ensures answer { IfOk result (λ r. r ≡ verdict (fitting (spec.set i atom.now (plain.Slice s.old.value.start s.old.value.items)))) }
-    ensures free { is_refused (fitting (spec.set i atom.now (plain.Slice s.old.value.start s.old.value.items))) ≡ true → IsOk result × (h.new ≡ h.old) }
-    ensures value { OnOk result (plain.Slice s.new.value.start s.new.value.items ≡ value_after (plain.Slice s.old.value.start s.old.value.items) (fitting (spec.set i atom.now (plain.Slice s.old.value.start s.old.value.items)))) }
-    ensures silent { reply_of (fitting (spec.set i atom.now (plain.Slice s.old.value.start s.old.value.items))) ≡ [] }
-    ensures refused { OnErr result ((s.new.value.start ≡ s.old.value.start) × (s.new.value.items ≡ s.old.value.items)) }
-    ensures alone { StaysAlone (slice s.old) (slice s.new) }
-    ensures hidden { s.new.value.units ≤ s.old.value.units + count_by T.is_counted (atom.now ∷ []) }
-    ensures paid { Costs T.is_counted (count_by T.is_counted (atom.now ∷ [])) 1 (slice s.old) h.old h.new }
+    requires ready { IsReady 1 (slice s.old) h.old }
+    ensures does { Does (whole (spec.set i atom.now)) (slice s.old) (slice s.new) [] [] result }
+    ensures paid { Costs T.is_counted (literal T.is_counted (atom.now ∷ []))
+        (whole (spec.set i atom.now)) (slice s.old) (slice s.new) h.old h.new result }
 {
     let Some(place) = index(s.start(), s.count(), i) else {
         return Ok(Err(Refusal::OutOfRange));
@@ -97,22 +79,16 @@ pub fn set<T: Element<Q>, Q: Stock>(
 }
 
 /// `pop N END`: no memory for a change, and at most one copy.
-pub fn pop<T: Element<Q>, Q: Stock>(
+fn pop<T: Element<Q>, Q: Stock>(
     s: &mut ArraySlice<T, Q>,
     side: Side,
     text: &mut Vec<u8>,
     h: &mut Holder<Q>,
 ) -> Result<Result<(), Refusal>, NoMemory>
-    requires small { length s.old.value.items ≤ max_count }
-    requires spare { need (2 * length s.old.value.items + 1) ≤ h.old.spare }
-    ensures answer { IfOk result (λ r. r ≡ verdict (fitting (spec.pop side (plain.Slice s.old.value.start s.old.value.items)))) }
-    ensures free { is_refused (fitting (spec.pop side (plain.Slice s.old.value.start s.old.value.items))) ≡ true → IsOk result × (h.new ≡ h.old) }
-    ensures value { OnOk result (plain.Slice s.new.value.start s.new.value.items ≡ value_after (plain.Slice s.old.value.start s.old.value.items) (fitting (spec.pop side (plain.Slice s.old.value.start s.old.value.items)))) }
-    ensures reply { OnOk result (text.new.items ≡ text.old.items ++ reply_of (fitting (spec.pop side (plain.Slice s.old.value.start s.old.value.items)))) }
-    ensures refused { OnErr result ((s.new.value.start ≡ s.old.value.start) × (s.new.value.items ≡ s.old.value.items) × (text.new.items ≡ text.old.items)) }
-    ensures alone { s.old.alone ≡ true → s.new.alone ≡ true }
-    ensures hidden { s.new.value.units ≤ s.old.value.units }
-    ensures paid { PopCosts T.is_counted (slice s.old) h.old h.new }
+    requires ready { IsReady 0 (slice s.old) h.old }
+    ensures does { Does (popping side) (slice s.old) (slice s.new) text.old.items text.new.items result }
+    ensures paid { Costs T.is_counted (literal T.is_counted [])
+        (popping side) (slice s.old) (slice s.new) h.old h.new result }
 {
     let Side::First = side else {
         return Ok(Err(Refusal::WrongKind));
@@ -124,57 +100,8 @@ pub fn pop<T: Element<Q>, Q: Stock>(
     Ok(Ok(()))
 }
 
-/// A statement that changes one value, on a slice. One that makes an array of it is none of these.
-pub fn change<T: Element<Q>, Q: Stock>(
-    s: &mut ArraySlice<T, Q>,
-    alloc: Global,
-    statement: &Statement,
-    text: &mut Vec<u8>,
-    h: &mut Holder<Q>,
-) -> Result<Result<(), Refusal>, NoMemory>
-    requires small { length s.old.value.items ≤ max_count }
-    requires stop { s.old.value.start + length s.old.value.items < 2 ^ 31 }
-    requires kept { is_rebase (out-Statement statement.now) ≡ false }
-    requires texts { FitsTexts (out-Statement statement.now) }
-    requires spare { need (2 * (length s.old.value.items + literals (out-Statement statement.now)) + 1) ≤ h.old.spare }
-    ensures answer { IfOk result (λ r. r ≡ verdict (fitting (change_of (out-Statement statement.now) (plain.Slice s.old.value.start s.old.value.items)))) }
-    ensures free { is_refused (fitting (change_of (out-Statement statement.now) (plain.Slice s.old.value.start s.old.value.items))) ≡ true → IsOk result × (h.new ≡ h.old) }
-    ensures value { OnOk result (plain.Slice s.new.value.start s.new.value.items ≡ value_after (plain.Slice s.old.value.start s.old.value.items) (fitting (change_of (out-Statement statement.now) (plain.Slice s.old.value.start s.old.value.items)))) }
-    ensures reply { OnOk result (text.new.items ≡ text.old.items ++ reply_of (fitting (change_of (out-Statement statement.now) (plain.Slice s.old.value.start s.old.value.items)))) }
-    ensures refused { OnErr result ((s.new.value.start ≡ s.old.value.start) × (s.new.value.items ≡ s.old.value.items) × (text.new.items ≡ text.old.items)) }
-    ensures alone { StaysAlone (slice s.old) (slice s.new) }
-    ensures hidden { s.new.value.units ≤ s.old.value.units + count_by T.is_counted (atoms_of (out-Statement statement.now)) }
-    ensures paid { Costs T.is_counted (count_by T.is_counted (atoms_of (out-Statement statement.now))) (literals (out-Statement statement.now)) (slice s.old) h.old h.new }
-{
-    match statement {
-        Statement::Append { atom, .. } => append(s, alloc, atom, h),
-        Statement::Set { i, atom, .. } => set(s, alloc, *i, atom, h),
-        _ => Ok(Err(Refusal::WrongKind)),
-    }
-}
-
-/// A statement that reads one value, on a slice.
-pub fn tell<T: Element<Q>, Q: Stock>(
-    s: &ArraySlice<T, Q>,
-    statement: &Statement,
-    text: &mut Vec<u8>,
-) -> Result<Result<(), Refusal>, NoMemory>
-    ensures answer { IfOk result (λ r. r ≡ told_verdict (query_of (out-Statement statement.now) (plain.Slice s.now.value.start s.now.value.items))) }
-    ensures reply { OnOk result (text.new.items ≡ text.old.items ++ told_reply (query_of (out-Statement statement.now) (plain.Slice s.now.value.start s.now.value.items))) }
-    ensures refused { OnErr result (text.new.items ≡ text.old.items) }
-{
-    match statement {
-        Statement::Count { .. } => {
-            put_number(s.count(), text)?;
-            Ok(Ok(()))
-        }
-        Statement::Get { atom, .. } => get(s, s.start(), atom, text),
-        _ => Ok(Err(Refusal::WrongKind)),
-    }
-}
-
 /// `equal N M`: by elements alone.
-pub fn equal<T: Element<Q>, Q: Stock>(
+fn equal<T: Element<Q>, Q: Stock>(
     s: &ArraySlice<T, Q>,
     other: &ArraySlice<T, Q>,
     text: &mut Vec<u8>,
@@ -183,6 +110,123 @@ pub fn equal<T: Element<Q>, Q: Stock>(
     ensures err { OnErr result (text.new.items ≡ text.old.items) }
 {
     put_truth(s.equals(other), text)
+}
+
+impl<T: Element<Q>, Q: Stock> Collection<T, Q> for ArraySlice<T, Q> {
+    ghost seen = { slice };
+
+    fn count(&self) -> usize {
+        self.count()
+    }
+
+    fn size(&self) -> usize {
+        self.count()
+    }
+
+    fn stop(&self) -> usize {
+        self.stop()
+    }
+
+    fn copy(&mut self, h: &mut Holder<Q>) -> ArraySlice<T, Q> {
+        self.copy(h)
+    }
+
+    fn settle(&mut self) {
+        self.settle();
+    }
+
+    fn end(self, h: &mut Holder<Q>) {
+        self.end(h);
+    }
+
+    fn put(&self, text: &mut Vec<u8>) -> Result<(), NoMemory> {
+        put_list_from(self, self.start(), text)
+    }
+
+    fn change(
+        &mut self,
+        alloc: Global,
+        statement: &Statement,
+        text: &mut Vec<u8>,
+        h: &mut Holder<Q>,
+    ) -> Result<Result<(), Refusal>, NoMemory> {
+        match statement {
+            Statement::Append { atom, .. } => append(self, alloc, atom, h),
+            Statement::Set { i, atom, .. } => set(self, alloc, *i, atom, h),
+            Statement::Pop { side, .. } => pop(self, *side, text, h),
+            _ => Ok(Err(Refusal::WrongKind)),
+        }
+    }
+
+    fn change_by(
+        &mut self,
+        _statement: &Statement,
+        _other: &Kinds<T, Q>,
+        _h: &mut Holder<Q>,
+    ) -> Result<Result<(), Refusal>, NoMemory> {
+        Ok(Err(Refusal::WrongKind))
+    }
+
+    fn parts(&self, statement: &Statement) -> bool {
+        match statement {
+            Statement::Set { i, atom, .. } => !keeps::set(self, self.start(), *i, atom),
+            Statement::Pop { .. } => false,
+            _ => true,
+        }
+    }
+
+    fn parts_by(&self, _statement: &Statement, _other: &Kinds<T, Q>) -> bool {
+        true
+    }
+
+    fn cost(&self, statement: &Statement, alone: bool) -> usize {
+        match statement {
+            Statement::Pop {
+                side: Side::First,
+                ..
+            } => usize::from(!alone),
+            _ if alone => 0,
+            _ => self.count(),
+        }
+    }
+
+    fn both_cost(&self, alone: bool) -> usize {
+        if alone { 0 } else { self.count() }
+    }
+
+    fn tell(
+        &self,
+        statement: &Statement,
+        text: &mut Vec<u8>,
+    ) -> Result<Result<(), Refusal>, NoMemory> {
+        match statement {
+            Statement::Count { .. } => {
+                put_number(self.count(), text)?;
+                Ok(Ok(()))
+            }
+            Statement::Get { atom, .. } => get(self, self.start(), atom, text),
+            _ => Ok(Err(Refusal::WrongKind)),
+        }
+    }
+
+    fn tell_both(
+        &self,
+        statement: &Statement,
+        other: &Kinds<T, Q>,
+        text: &mut Vec<u8>,
+    ) -> Result<Result<(), Refusal>, NoMemory> {
+        match (statement, other) {
+            (Statement::Equal { .. }, Kinds::Slice(other)) => {
+                equal(self, other, text)?;
+                Ok(Ok(()))
+            }
+            _ => Ok(Err(Refusal::WrongKind)),
+        }
+    }
+
+    fn slice(&mut self, _i: i64, _j: i64, _h: &mut Holder<Q>) -> Result<Kinds<T, Q>, Refusal> {
+        Err(Refusal::WrongKind)
+    }
 }
 
 impl<T: Element<Q>, Q: Stock> Listed<T, Q> for ArraySlice<T, Q> {

@@ -3,11 +3,11 @@ use Rattle.std.specs.Prelude.{nat_eq}
 use Rattle.std.proofs.lemmas.Bool.Decides.{Decides-at, Decides-eqb}
 use Rattle.std.proofs.lemmas.Grind.{common_steps}
 use Rattle.cow_kinds.proofs.Alike.{extend-same}
-use Rattle.cow_kinds.proofs.value.Value.keeps_by.Goals as goal
+use Rattle.cow_kinds.proofs.array.ArrayCollection.parts_by.Goals as goal
 
-pub returns-in-Array-Extend-Array : goal.returns-in-Array-Extend-Array
-returns-in-Array-Extend-Array g c =
-    let others = c.in-Array-Extend-Array.others.value in
+pub returns-in-Extend-Array : goal.returns-in-Extend-Array
+returns-in-Extend-Array g c =
+    let others = c.in-Extend-Array.other.value in
     let empty = Decides-at (nat_eq c.count.result 0) (nat_eq (length others) 0) (rw c.count.ensures.value refl) (Decides-eqb (length others) 0) in
-    let same = extend-same (nat_eq c.count.result 0) c.in-Array-Extend-Array.field-0-0.value others empty in
+    let same = extend-same (nat_eq c.count.result 0) c.args.self.now.value others empty in
     grind (arith, common_steps, same)

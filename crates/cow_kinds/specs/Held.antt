@@ -1,0 +1,25 @@
+-- The units of a plain value of any kind.
+use Rattle.std.specs.Prelude.{ℕ, ◌+◌, Bool, List, count_by, if◌then◌else◌}
+use Rattle.std.specs.List.{sum_by}
+use Rattle.cow_model.specs.Purse.{unit_if}
+use Rattle.cow_model.specs.declared.plain.Literal.{Literal}
+use Rattle.cow_model.specs.declared.value.Pair.{Pair}
+use Rattle.cow_model.specs.declared.value.Plain.{Plain}
+use Rattle.cow_model.specs.declared.value.Plain.TheVariants.{Array, Slice, Deque, Set, Dict, OSet, ODict, Heap, TSet, TDict}
+
+-- the units of a pair's two atoms
+abbrev pub pair_units : (Literal → Bool) → Pair → ℕ
+pair_units p q = unit_if (p q.key) + unit_if (p q.value)
+
+-- the units of the atoms of a value
+abbrev pub units_of : (Literal → Bool) → Plain → ℕ
+units_of p (Array items) = count_by p items
+units_of p (Slice start items) = count_by p items
+units_of p (Deque items) = count_by p items
+units_of p (Set items) = count_by p items
+units_of p (Dict pairs) = sum_by (pair_units p) pairs
+units_of p (OSet items) = count_by p items
+units_of p (ODict pairs) = sum_by (pair_units p) pairs
+units_of p (Heap items) = count_by p items
+units_of p (TSet items) = count_by p items
+units_of p (TDict pairs) = sum_by (pair_units p) pairs

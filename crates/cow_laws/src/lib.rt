@@ -1,0 +1,7 @@
+//! Laws of the table.
+#![tactic(auto)]
+
+/// One.
+pub fn one() -> u8 {
+    1
+}

@@ -1,0 +1,6 @@
+pub mod BareNames
+pub mod Costs
+pub mod Flags
+pub mod Places
+pub mod Results
+pub mod Steps
