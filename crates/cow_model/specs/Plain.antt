@@ -1,5 +1,5 @@
 -- Plain values: what they hold, how large they are, and when two are one.
-use Rattle.std.specs.Prelude.{ℕ, ◌*◌, ◌&&◌, ◌==◌, Bool, true, false, List, length}
+use Rattle.std.specs.Prelude.{ℕ, ◌+◌, ◌*◌, ◌&&◌, ◌==◌, Bool, true, false, List, length}
 use Rattle.std.specs.Cmp.Lexicographic.{pointwise}
 use Rattle.cow_model.specs.Order.{same}
 use Rattle.cow_model.specs.declared.plain.Literal.{Literal}
@@ -30,6 +30,11 @@ size (Dict pairs) = 2 * length pairs
 size (ODict pairs) = 2 * length pairs
 size (TDict pairs) = 2 * length pairs
 size value = count value
+
+-- the index behind the last element: that of a slice is in the array that it was cut from
+abbrev pub stop : Plain → ℕ
+stop (Slice start items) = start + length items
+stop value = count value
 
 -- whether a value is a trie
 abbrev pub is_tree : Plain → Bool

@@ -1,7 +1,7 @@
 -- The sharing rule: how many copies a statement allows, and when a name's value is taken to be alone in its storage.
-use Rattle.std.specs.Prelude.{ℕ, ◌+◌, ◌*◌, min, ◌==◌, Bool, not, ◌||◌, length, count_by, if◌then◌else◌}
+use Rattle.std.specs.Prelude.{ℕ, ◌+◌, ◌*◌, min, ◌==◌, Bool, length, count_by, if◌then◌else◌}
 use Rattle.cow_model.specs.Hash.{literal_hash}
-use Rattle.cow_model.specs.Plain.{size, is_tree, same_plain}
+use Rattle.cow_model.specs.Plain.{size, is_tree}
 use Rattle.cow_model.specs.declared.plain.Literal.{Literal}
 use Rattle.cow_model.specs.declared.value.Plain.{Plain}
 use Rattle.cow_model.specs.declared.value.Plain.TheVariants.{Slice, TSet, TDict}
@@ -35,8 +35,8 @@ literals (Statement-F.Put l n k v) = 2
 literals statement = 0
 
 -- a change allows the size of a value that isn't alone
-abbrev pub own_cost : Entry → ℕ
-own_cost e = if e.alone then 0 else size e.value
+abbrev pub own_cost_of : Bool → Plain → ℕ
+own_cost_of alone v = if alone then 0 else size v
 
 -- whether an atom has the hash of another
 abbrev pub same_hash : Literal → Literal → Bool
@@ -47,37 +47,29 @@ abbrev pub path_cost : ℕ → ℕ → ℕ → ℕ
 path_cost w n alike = min (w * n) (w * (224 + alike))
 
 -- a change of one key allows a path of a trie, and else what a change allows
-abbrev pub key_cost_of : Literal → Entry → Plain → ℕ
-key_cost_of a e (TSet items) = path_cost 1 (length items) (count_by (same_hash a) items)
-key_cost_of a e (TDict pairs) = path_cost 2 (length pairs) (count_by (λ p. same_hash a p.key) pairs)
-key_cost_of a e value = own_cost e
-
--- the same of an entry's own value
-abbrev pub key_cost : Literal → Entry → ℕ
-key_cost a e = key_cost_of a e e.value
+abbrev pub key_cost_of : Literal → Bool → Plain → ℕ
+key_cost_of a alone (TSet items) = path_cost 1 (length items) (count_by (same_hash a) items)
+key_cost_of a alone (TDict pairs) = path_cost 2 (length pairs) (count_by (λ p. same_hash a p.key) pairs)
+key_cost_of a alone v = own_cost_of alone v
 
 -- the first element of a slice that isn't alone is one copy
-abbrev pub pop_cost_of : Side → Entry → Plain → ℕ
-pop_cost_of First e (Slice start items) = if e.alone then 0 else 1
-pop_cost_of side e value = own_cost e
-
--- the same of an entry's own value
-abbrev pub pop_cost : Side → Entry → ℕ
-pop_cost side e = pop_cost_of side e e.value
+abbrev pub pop_cost_of : Side → Bool → Plain → ℕ
+pop_cost_of First alone (Slice start items) = if alone then 0 else 1
+pop_cost_of side alone v = own_cost_of alone v
 
 -- a change by another value: a trie is copied whole, alone or not
+abbrev pub both_cost_of : Bool → Plain → ℕ
+both_cost_of alone v = if is_tree v then size v else own_cost_of alone v
+
+-- the same of an entry, by its flag
+abbrev pub own_cost : Entry → ℕ
+own_cost e = own_cost_of e.alone e.value
+
+abbrev pub key_cost : Literal → Entry → ℕ
+key_cost a e = key_cost_of a e.alone e.value
+
+abbrev pub pop_cost : Side → Entry → ℕ
+pop_cost side e = pop_cost_of side e.alone e.value
+
 abbrev pub both_cost : Entry → ℕ
-both_cost e = if is_tree e.value then size e.value else own_cost e
-
--- after a change a value is alone where it differs, or was alone before
-abbrev pub alone_after : Entry → Plain → Bool
-alone_after e value = e.alone || not (same_plain e.value value)
-
--- but the first element of a slice goes without a change of its storage
-abbrev pub alone_after_pop_of : Side → Plain → Entry → Plain → Bool
-alone_after_pop_of First (Slice start items) e value = e.alone
-alone_after_pop_of side before e value = alone_after e value
-
--- whether an entry is alone after `pop`
-abbrev pub alone_after_pop : Side → Entry → Plain → Bool
-alone_after_pop side e value = alone_after_pop_of side e.value e value
+both_cost e = both_cost_of e.alone e.value

@@ -10,8 +10,9 @@ use Rattle.cow_model.specs.Operation.{Answer, fitting, index}
 use Rattle.cow_model.specs.Query as query
 use Rattle.cow_model.specs.Query.{Told}
 use Rattle.cow_model.specs.Env.{entry_of, has_place, given, without, settled, shared, renamed, allow}
-use Rattle.cow_model.specs.Sharing.{Layer, literals, own_cost, key_cost, pop_cost, both_cost, alone_after, alone_after_pop}
+use Rattle.cow_model.specs.Sharing.{Layer, literals, both_cost}
 use Rattle.cow_model.specs.Lazy.{view}
+use Rattle.cow_model.specs.Turns.{Turn, whole, keyed, popping, alone_after}
 use Rattle.cow_model.specs.declared.plain.Literal.{Literal}
 use Rattle.cow_model.specs.declared.value.Plain.{Plain}
 use Rattle.cow_model.specs.declared.value.Plain.TheVariants.{Array}
@@ -109,17 +110,21 @@ abbrev pub becomes : Environment → Text → ℕ → (Plain → Bool) → Answe
 becomes env name n alone (Err why) = refused env why
 becomes env name n alone (Ok done) = record { env = allow n (gives name done.value (alone done.value) env); text = done.reply }
 
+-- a row of the table, done to a name
+abbrev pub turned : Environment → Text → Turn → Outcome
+turned env name t = with_entry env name (λ e. becomes env name (t.cost e.alone e.value) (alone_after t e.alone e.value) (t.run e.value))
+
 -- a statement that changes one value
 abbrev pub change : Environment → Text → (Plain → Answer) → Outcome
-change env name run = with_entry env name (λ e. becomes env name (own_cost e) (alone_after e) (fitting (run e.value)))
+change env name run = turned env name (whole run)
 
 -- a statement that changes one key
 abbrev pub change_key : Environment → Text → Literal → (Plain → Answer) → Outcome
-change_key env name key run = with_entry env name (λ e. becomes env name (key_cost key e) (alone_after e) (fitting (run e.value)))
+change_key env name key run = turned env name (keyed key run)
 
 -- `pop N END`
 abbrev pub pop_in : Environment → Text → Side → Outcome
-pop_in env name side = with_entry env name (λ e. becomes env name (pop_cost side e) (alone_after_pop side e) (operation.pop side e.value))
+pop_in env name side = turned env name (popping side)
 
 -- N as a change by M takes it: not alone where it is M itself
 abbrev pub as_changed : Text → Text → Entry → Entry
@@ -130,7 +135,7 @@ abbrev pub change_by : Environment → Text → Text → Bool → (Plain → Pla
 change_by env name other adds run =
     with_entry env name (λ e. with_entry env other (λ f.
     becomes env name (both_cost (as_changed name other e) + (if adds then size f.value else 0))
-    (λ value. not (bytes_eq name other) && alone_after e value)
+    (λ value. not (bytes_eq name other) && alone_after (whole (λ v. run v f.value)) e.alone e.value value)
     (fitting (run e.value f.value))))
 
 -- a lazy statement leaves its array not alone, and allows so many copies

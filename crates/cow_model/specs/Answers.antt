@@ -1,9 +1,8 @@
--- What a call tells of the answer that its definition gives.
-use Rattle.std.specs.Prelude.{◌≡◌, Bool, true, false, ⊤, [], Result, Ok, Err}
+-- What becomes of a statement by the answer that its definition gives.
+use Rattle.std.specs.Prelude.{Bool, true, false, ⊤, [], Option, Some, None, Result, Ok, Err}
 use Rattle.cow_model.specs.Lexis.{Text}
 use Rattle.cow_model.specs.Printed.{line}
 use Rattle.cow_model.specs.Operation.{Answer}
-use Rattle.cow_model.specs.Plain.{same_plain}
 use Rattle.cow_model.specs.Query.{Told}
 use Rattle.cow_model.specs.declared.value.Plain.{Plain}
 use Rattle.cow_model.specs.declared.refusal.Refusal.{Refusal}
@@ -38,7 +37,7 @@ abbrev pub told_reply : Told → Text
 told_reply (Ok text) = line text
 told_reply (Err why) = []
 
--- what tells, before a statement that isn't refused, whether it leaves the value the same
-abbrev pub TellsSame : Bool → Plain → Answer → Type 0
-TellsSame keeps before (Ok done) = keeps ≡ same_plain before done.value
-TellsSame keeps before (Err why) = ⊤
+-- why a statement is refused, if it is
+abbrev pub refusal_in : Answer → Option Refusal
+refusal_in (Ok done) = None
+refusal_in (Err why) = Some why

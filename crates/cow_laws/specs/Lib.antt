@@ -1,4 +1,0 @@
-pub mod Answers
-pub mod Held
-pub mod Turned
-pub mod Turns

@@ -1,6 +1,0 @@
-pub mod BareNames
-pub mod Costs
-pub mod Flags
-pub mod Places
-pub mod Results
-pub mod Steps
