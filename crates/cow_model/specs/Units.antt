@@ -1,5 +1,5 @@
 -- The units of values of all kinds: one for each counted atom, and those of a trie's nodes.
-use Rattle.std.specs.Prelude.{ℕ, ◌+◌, Bool, List, count_by, if◌then◌else◌}
+use Rattle.std.specs.Prelude.{ℕ, ◌+◌, Bool, count_by, if◌then◌else◌}
 use Rattle.std.specs.List.{sum_by}
 use Rattle.cow_model.specs.Flat.{need}
 use Rattle.cow_model.specs.Plain.{count, is_tree}
