@@ -23,8 +23,8 @@ use cow_cell::{Holder, Stock};
 use cow_model::{Kind, Literal, NoMemory, Refusal, Statement};
 use std::alloc::Global;
 
-/// What contracts see of a value.
-pub trait Shown: Sized + Drop {
+/// What contracts see of a value. `V` is the type of the values of all kinds.
+pub trait Shown<V>: Sized + Drop {
     /// Its plain value, whether it is known to be alone, and its hidden units.
     ghost seen: { Self → Seen };
 
@@ -32,9 +32,9 @@ pub trait Shown: Sized + Drop {
     ghost counted: { Literal → Bool };
 }
 
-/// A collection of one kind, or the type of all kinds: what one statement does to a value of it. `O` is the
-/// type of the other value that a statement names, and of a slice.
-pub trait Collection<O: Shown, Q: Stock>: Shown {
+/// A collection of one kind, or the type `V` of all kinds: what one statement does to a value of it. The other
+/// value that a statement names is of type `V`, and so is a slice.
+pub trait Collection<V: Shown<V>, Q: Stock>: Shown<V> {
     /// The statements that `change` does: all, or all but one that gives a value of another kind.
     ghost takes: { Layer → Bool };
 
@@ -89,31 +89,31 @@ pub trait Collection<O: Shown, Q: Stock>: Shown {
     fn change_by(
         &mut self,
         statement: &Statement,
-        other: &O,
+        other: &V,
         h: &mut Holder<Q>,
     ) -> Result<Result<(), Refusal>, NoMemory>
-        requires small { plain.count (O.seen other.now).value ≤ max_count }
-        requires ready { IsReady (plain.size (O.seen other.now).value) (Self.seen self.old) h.old }
-        ensures does { Does (turn_by_of (out-Statement statement.now) (O.seen other.now).value)
+        requires small { plain.count (V.seen other.now).value ≤ max_count }
+        requires ready { IsReady (plain.size (V.seen other.now).value) (Self.seen self.old) h.old }
+        ensures does { Does (turn_by_of (out-Statement statement.now) (V.seen other.now).value)
             (Self.seen self.old) (Self.seen self.new) [] [] result }
-        ensures paid { Costs Self.counted (given_by Self.counted (out-Statement statement.now) (O.seen other.now))
-            (turn_by_of (out-Statement statement.now) (O.seen other.now).value)
+        ensures paid { Costs Self.counted (given_by Self.counted (out-Statement statement.now) (V.seen other.now))
+            (turn_by_of (out-Statement statement.now) (V.seen other.now).value)
             (Self.seen self.old) (Self.seen self.new) h.old h.new result };
 
     /// Why `change_by` refuses, told without a change.
-    fn refusal_by(&self, statement: &Statement, other: &O) -> Option<Refusal>
+    fn refusal_by(&self, statement: &Statement, other: &V) -> Option<Refusal>
         requires small { plain.count (Self.seen self.now).value ≤ max_count }
-        requires other { plain.count (O.seen other.now).value ≤ max_count }
+        requires other { plain.count (V.seen other.now).value ≤ max_count }
         ensures { result ≡ refusal_in
-            ((turn_by_of (out-Statement statement.now) (O.seen other.now).value).run (Self.seen self.now).value) };
+            ((turn_by_of (out-Statement statement.now) (V.seen other.now).value).run (Self.seen self.now).value) };
 
     /// Whether a statement that isn't refused leaves the value alone where it wasn't. No memory.
     fn parts(&self, statement: &Statement) -> bool
         ensures { TellsParts result (turn_of (out-Statement statement.now)) (Self.seen self.now).value };
 
     /// The same of one that changes it by another value.
-    fn parts_by(&self, statement: &Statement, other: &O) -> bool
-        ensures { TellsParts result (turn_by_of (out-Statement statement.now) (O.seen other.now).value)
+    fn parts_by(&self, statement: &Statement, other: &V) -> bool
+        ensures { TellsParts result (turn_by_of (out-Statement statement.now) (V.seen other.now).value)
             (Self.seen self.now).value };
 
     /// The most copies that the sharing rule allows a statement beside its literals, by the flag.
@@ -137,22 +137,22 @@ pub trait Collection<O: Shown, Q: Stock>: Shown {
     fn tell_both(
         &self,
         statement: &Statement,
-        other: &O,
+        other: &V,
         text: &mut Vec<u8>,
     ) -> Result<Result<(), Refusal>, NoMemory>
         ensures { Tells
-            (query_both_of (out-Statement statement.now) (Self.seen self.now).value (O.seen other.now).value)
+            (query_both_of (out-Statement statement.now) (Self.seen self.now).value (V.seen other.now).value)
             text.old.items text.new.items result };
 
     /// `let N = slice M I J`, in one step: both show their elements, and neither is alone.
-    fn slice(&mut self, i: i64, j: i64, h: &mut Holder<Q>) -> Result<O, Refusal>
+    fn slice(&mut self, i: i64, j: i64, h: &mut Holder<Q>) -> Result<V, Refusal>
         requires { 1 ≤ h.old.spare }
         ensures answer { MatchResult result
-            (λ v. spec.slice i j (Self.seen self.old).value ≡ spec.silent (O.seen v).value)
+            (λ v. spec.slice i j (Self.seen self.old).value ≡ spec.silent (V.seen v).value)
             (λ why. spec.slice i j (Self.seen self.old).value ≡ Err why) }
         ensures same { OnOk result (Self.seen self.new ≡ shared (Self.seen self.old)) }
-        ensures alone { IfOk result (λ v. (O.seen v).alone ≡ false) }
-        ensures hidden { IfOk result (λ v. (O.seen v).hidden ≡ units_of Self.counted (Self.seen self.old).value) }
+        ensures alone { IfOk result (λ v. (V.seen v).alone ≡ false) }
+        ensures hidden { IfOk result (λ v. (V.seen v).hidden ≡ units_of Self.counted (Self.seen self.old).value) }
         ensures spent { OnOk result (h.new ≡ less 1 h.old) }
         ensures refused { OnErr result ((Self.seen self.new ≡ Self.seen self.old) × (h.new ≡ h.old)) };
 

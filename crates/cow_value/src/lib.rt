@@ -4,8 +4,7 @@
 //! (`specs/Seen.antt`). What a call relies on and promises is one record each (`specs/Calls.antt`), over the
 //! row that the table of `cow_model` gives a statement.
 //!
-//! - [`Collection`] is implemented by each kind and by the type of all kinds. `O` is the type of the other value
-//!   that a statement names.
+//! - [`Collection`] is implemented by each kind and by the type `V` of all kinds.
 //! - [`Values`] is the type of all kinds that are built. The layer above is generic in it, `V: Values<Q>`: it
 //!   sees no kind, no element and no storage.
 #![tactic(auto)]
