@@ -1,10 +1,29 @@
--- What contracts see of the kinds.
-use Rattle.cow_kinds.specs.Seen as kind
-use Rattle.cow_kinds.specs.Seen.{Seen}
-use Rattle.cow_kinds.specs.declared.kinds.Kinds.{Kinds}
-use Rattle.cow_kinds.specs.declared.kinds.Kinds.TheVariants.{Array, Slice}
+-- What contracts see of each kind.
+use Rattle.std.specs.Prelude.{Bool, true, false, List}
+use Rattle.cow_array.specs.Slice as slices
+use Rattle.cow_kinds.specs.declared.value.Value.{Value}
+use Rattle.cow_kinds.specs.declared.value.Value.TheVariants as variants
+use Rattle.cow_model.specs.Flat.{Flat}
+use Rattle.cow_model.specs.Sharing.{Layer}
+use Rattle.cow_model.specs.declared.plain.Literal.{Literal}
+use Rattle.cow_model.specs.declared.statement.Statement.TheOpen.{Statement-F}
+use Rattle.cow_model.specs.declared.value.Plain.TheVariants.{Array, Slice}
+use Rattle.cow_value.specs.Seen.{Seen}
+
+-- an array
+abbrev pub array : Flat (List Literal) → Seen
+array a = record { value = Array a.value; alone = a.alone; hidden = 0 }
+
+-- a slice: the units of its storage, those of elements that it doesn't show among them
+abbrev pub slice : Flat slices.Slice → Seen
+slice s = record { value = Slice s.value.start s.value.items; alone = s.alone; hidden = s.value.units }
 
 -- kind by kind
-abbrev pub seen : {T Q : Type 0} → Kinds T Q → Seen
-seen (Array a) = kind.array a
-seen (Slice s) = kind.slice s
+abbrev pub seen : {T Q : Type 0} → Value T Q → Seen
+seen (variants.Array a) = array a
+seen (variants.Slice s) = slice s
+
+-- `rebase` gives a value of another kind, so no kind does it by itself
+abbrev pub keeps_kind : Layer → Bool
+keeps_kind (Statement-F.Rebase l n) = false
+keeps_kind statement = true

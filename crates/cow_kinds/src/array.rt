@@ -1,29 +1,30 @@
 // The statements on arrays, each as its definition says. A refused one changes nothing and makes no
 // element.
 ghost use Rattle.std.specs.Prelude.{◌≡◌, ◌+◌, ◌≤◌, [], ◌∷◌, ◌++◌, length, count_by, All, IfOk, OnOk, OnErr};
-ghost use Rattle.cow_model.specs.Flat.{Becomes};
+ghost use Rattle.cow_model.specs.Answers.{refusal_in};
 ghost use Rattle.cow_model.specs.Literals.{FitsText};
 ghost use Rattle.cow_model.specs.Operation as spec;
 ghost use Rattle.cow_model.specs.Plain.{max_count, same_items};
 ghost use Rattle.cow_model.specs.Printed.{line, truth};
-ghost use Rattle.cow_model.specs.Purse.{Moves, less, noted};
 ghost use Rattle.cow_model.specs.declared.value.Plain.TheVariants as plain;
-ghost use Rattle.cow_kinds.specs.Seen.{array, literal, IsReady, Does, Costs};
-ghost use Rattle.cow_kinds.specs.Turns.{whole, keyed, popping};
+ghost use Rattle.cow_kinds.specs.Values.{array, keeps_kind};
+ghost use Rattle.cow_value.specs.Calls.{IsReady, Does, Costs, Made};
+ghost use Rattle.cow_value.specs.Seen.{fresh, literal};
+ghost use Rattle.cow_model.specs.Turns.{whole, keyed, popping};
 
-use crate::collection::Collection;
 use crate::element::Element;
 use crate::keeps;
-use crate::kinds::Kinds;
 use crate::lines::{put_element_at, put_number, put_truth};
 use crate::listed::{Listed, put_list};
 use crate::positions::{MAX_COUNT, index, index_to_end, stretch};
 use crate::queries::get;
 use crate::reading::{end_all, read_all};
+use crate::value::Value;
 use cow_array::Array;
 use cow_cell::{Holder, Stock};
 use cow_item::Item;
 use cow_model::{Literal, NoMemory, Refusal, Side, Statement};
+use cow_value::{Collection, Shown};
 use std::alloc::Global;
 
 /// `append N A`
@@ -273,6 +274,19 @@ fn splice<T: Element<Q>, Q: Stock>(
     }
 }
 
+/// Why `extend N M` is refused, where both are arrays.
+fn extend_refusal<T: Element<Q>, Q: Stock>(a: &Array<T, Q>, other: &Array<T, Q>) -> Option<Refusal>
+    requires small { length a.now.value ≤ max_count }
+    ensures { result ≡ refusal_in
+        ((whole (λ v. spec.extend v (plain.Array other.now.value))).run (plain.Array a.now.value)) }
+{
+    if other.count() > MAX_COUNT - a.count() {
+        Some(Refusal::Full)
+    } else {
+        None
+    }
+}
+
 /// `extend N M`
 fn extend<T: Element<Q>, Q: Stock>(
     a: &mut Array<T, Q>,
@@ -287,8 +301,8 @@ fn extend<T: Element<Q>, Q: Stock>(
         (whole (λ v. spec.extend v (plain.Array other.now.value)))
         (array a.old) (array a.new) h.old h.new result }
 {
-    if other.count() > MAX_COUNT - a.count() {
-        return Ok(Err(Refusal::Full));
+    if let Some(why) = extend_refusal(a, other) {
+        return Ok(Err(why));
     }
     a.extend(other, h)?;
     Ok(Ok(()))
@@ -303,9 +317,8 @@ pub fn make<T: Element<Q>, Q: Stock>(
     requires texts { All FitsText atoms.now }
     requires small { length atoms.now ≤ max_count }
     requires spare { length atoms.now + 1 ≤ h.old.spare }
-    ensures ok { IfOk result (λ a. Becomes atoms.now a) }
-    ensures spent { OnOk result (h.new ≡ noted (length atoms.now) (less (1 + count_by T.is_counted atoms.now) h.old)) }
-    ensures refused { OnErr result (Moves 0 (length atoms.now) h.old h.new) }
+    ensures ok { IfOk result (λ a. array a ≡ fresh (plain.Array atoms.now)) }
+    ensures paid { Made T.is_counted (plain.Array atoms.now) (length atoms.now) h.old h.new result }
 {
     if atoms.is_empty() {
         return Array::new(alloc, h);
@@ -332,8 +345,14 @@ fn equal<T: Element<Q>, Q: Stock>(
     put_truth(a.equals(other), text)
 }
 
-impl<T: Element<Q>, Q: Stock> Collection<T, Q> for Array<T, Q> {
+impl<T: Element<Q>, Q: Stock> Shown<Value<T, Q>> for Array<T, Q> {
     ghost seen = { array };
+
+    ghost counted = { T.is_counted };
+}
+
+impl<T: Element<Q>, Q: Stock> Collection<Value<T, Q>, Q> for Array<T, Q> {
+    ghost takes = { keeps_kind };
 
     fn count(&self) -> usize {
         self.count()
@@ -349,10 +368,6 @@ impl<T: Element<Q>, Q: Stock> Collection<T, Q> for Array<T, Q> {
 
     fn copy(&mut self, h: &mut Holder<Q>) -> Array<T, Q> {
         self.copy(h)
-    }
-
-    fn settle(&mut self) {
-        self.settle();
     }
 
     fn end(self, h: &mut Holder<Q>) {
@@ -390,12 +405,19 @@ impl<T: Element<Q>, Q: Stock> Collection<T, Q> for Array<T, Q> {
     fn change_by(
         &mut self,
         statement: &Statement,
-        other: &Kinds<T, Q>,
+        other: &Value<T, Q>,
         h: &mut Holder<Q>,
     ) -> Result<Result<(), Refusal>, NoMemory> {
         match (statement, other) {
-            (Statement::Extend { .. }, Kinds::Array(other)) => extend(self, other, h),
+            (Statement::Extend { .. }, Value::Array(other)) => extend(self, other, h),
             _ => Ok(Err(Refusal::WrongKind)),
+        }
+    }
+
+    fn refusal_by(&self, statement: &Statement, other: &Value<T, Q>) -> Option<Refusal> {
+        match (statement, other) {
+            (Statement::Extend { .. }, Value::Array(other)) => extend_refusal(self, other),
+            _ => Some(Refusal::WrongKind),
         }
     }
 
@@ -413,9 +435,9 @@ impl<T: Element<Q>, Q: Stock> Collection<T, Q> for Array<T, Q> {
         }
     }
 
-    fn parts_by(&self, statement: &Statement, other: &Kinds<T, Q>) -> bool {
+    fn parts_by(&self, statement: &Statement, other: &Value<T, Q>) -> bool {
         match (statement, other) {
-            (Statement::Extend { .. }, Kinds::Array(other)) => other.count() != 0,
+            (Statement::Extend { .. }, Value::Array(other)) => other.count() != 0,
             _ => true,
         }
     }
@@ -446,11 +468,11 @@ impl<T: Element<Q>, Q: Stock> Collection<T, Q> for Array<T, Q> {
     fn tell_both(
         &self,
         statement: &Statement,
-        other: &Kinds<T, Q>,
+        other: &Value<T, Q>,
         text: &mut Vec<u8>,
     ) -> Result<Result<(), Refusal>, NoMemory> {
         match (statement, other) {
-            (Statement::Equal { .. }, Kinds::Array(other)) => {
+            (Statement::Equal { .. }, Value::Array(other)) => {
                 equal(self, other, text)?;
                 Ok(Ok(()))
             }
@@ -458,11 +480,18 @@ impl<T: Element<Q>, Q: Stock> Collection<T, Q> for Array<T, Q> {
         }
     }
 
-    fn slice(&mut self, i: i64, j: i64, h: &mut Holder<Q>) -> Result<Kinds<T, Q>, Refusal> {
+    fn slice(&mut self, i: i64, j: i64, h: &mut Holder<Q>) -> Result<Value<T, Q>, Refusal> {
         let Some((from, to)) = stretch(self.count(), i, j) else {
             return Err(Refusal::OutOfRange);
         };
-        Ok(Kinds::Slice(self.slice(from, to, h)))
+        Ok(Value::Slice(self.slice(from, to, h)))
+    }
+
+    fn slice_refusal(&self, i: i64, j: i64) -> Option<Refusal> {
+        match stretch(self.count(), i, j) {
+            Some(_) => None,
+            None => Some(Refusal::OutOfRange),
+        }
     }
 }
 

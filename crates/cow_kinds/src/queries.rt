@@ -1,6 +1,6 @@
 // What statements that only read print of a list of elements.
 ghost use Rattle.cow_model.specs.Query as spec;
-ghost use Rattle.cow_kinds.specs.Seen.{Tells};
+ghost use Rattle.cow_value.specs.Calls.{Tells};
 
 use crate::element::Element;
 use crate::lines::put_element_at;

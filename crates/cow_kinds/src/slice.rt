@@ -1,26 +1,32 @@
 // The statements on slices, each as its definition says. A refused one changes nothing and makes no
 // element.
-ghost use Rattle.std.specs.Prelude.{◌≡◌, [], ◌∷◌, ◌++◌, OnOk, OnErr};
+ghost use Rattle.std.specs.Prelude.{◌≡◌, ◌≤◌, [], ◌∷◌, ◌++◌, OnOk, OnErr};
+ghost use Rattle.cow_model.specs.Flat.{need};
 ghost use Rattle.cow_model.specs.Literals.{FitsText};
 ghost use Rattle.cow_model.specs.Operation as spec;
-ghost use Rattle.cow_model.specs.Plain.{same_items};
+ghost use Rattle.cow_model.specs.Plain as plain;
+ghost use Rattle.cow_model.specs.Plain.{max_count, same_items};
 ghost use Rattle.cow_model.specs.Printed.{line, truth};
-ghost use Rattle.cow_kinds.specs.Seen.{slice, literal, IsReady, Does, Costs};
-ghost use Rattle.cow_kinds.specs.Turns.{whole, popping};
+ghost use Rattle.cow_kinds.specs.Values as values;
+ghost use Rattle.cow_kinds.specs.Values.{slice, keeps_kind};
+ghost use Rattle.cow_value.specs.Calls.{IsReady, Does, Costs};
+ghost use Rattle.cow_value.specs.Seen.{literal};
+ghost use Rattle.cow_model.specs.Turns.{whole, popping};
 
-use crate::collection::Collection;
 use crate::element::Element;
 use crate::keeps;
-use crate::kinds::Kinds;
 use crate::lines::{put_element_at, put_number, put_truth};
 use crate::listed::{Listed, put_list_from};
 use crate::positions::{MAX_COUNT, index};
 use crate::queries::get;
-use cow_array::ArraySlice;
+use crate::value::Value;
+use cow_array::{Array, ArraySlice};
 use cow_cell::{Holder, Stock};
 use cow_item::Item;
 use cow_model::{Literal, NoMemory, Refusal, Side, Statement};
+use cow_value::{Collection, Shown};
 use std::alloc::Global;
+use std::mem;
 
 /// `append N A`
 fn append<T: Element<Q>, Q: Stock>(
@@ -112,8 +118,54 @@ fn equal<T: Element<Q>, Q: Stock>(
     put_truth(s.equals(other), text)
 }
 
-impl<T: Element<Q>, Q: Stock> Collection<T, Q> for ArraySlice<T, Q> {
+// A slice as the array of its elements. Want of memory hands it back as it was.
+fn as_array<T: Element<Q>, Q: Stock>(
+    v: Value<T, Q>,
+    h: &mut Holder<Q>,
+) -> (Result<Result<(), Refusal>, NoMemory>, Value<T, Q>)
+    requires small { plain.count (values.seen v).value ≤ max_count }
+    requires spare { need (plain.count (values.seen v).value) ≤ h.old.spare }
+    ensures does { Does (whole spec.rebase) (values.seen v) (values.seen result.1) [] [] result.0 }
+    ensures paid { Costs T.is_counted (literal T.is_counted []) (whole spec.rebase)
+        (values.seen v) (values.seen result.1) h.old h.new result.0 }
+{
+    match v {
+        Value::Slice(s) => match s.into_array(h) {
+            Ok(a) => (Ok(Ok(())), Value::Array(a)),
+            Err((refused, s)) => (Err(refused), Value::Slice(s)),
+        },
+        other => (Ok(Err(Refusal::WrongKind)), other),
+    }
+}
+
+/// `rebase N`. The place of the value holds an empty array meanwhile.
+pub fn rebase<T: Element<Q>, Q: Stock>(
+    v: &mut Value<T, Q>,
+    alloc: Global,
+    h: &mut Holder<Q>,
+) -> Result<Result<(), Refusal>, NoMemory>
+    requires ready { IsReady 0 (values.seen v.old) h.old }
+    ensures does { Does (whole spec.rebase) (values.seen v.old) (values.seen v.new) [] [] result }
+    ensures paid { Costs T.is_counted (literal T.is_counted []) (whole spec.rebase)
+        (values.seen v.old) (values.seen v.new) h.old h.new result }
+{
+    let Value::Slice(_) = v else {
+        return Ok(Err(Refusal::WrongKind));
+    };
+    let empty = Value::Array(Array::new(alloc, h)?);
+    let (done, value) = as_array(mem::replace(v, empty), h);
+    mem::replace(v, value).end(h);
+    done
+}
+
+impl<T: Element<Q>, Q: Stock> Shown<Value<T, Q>> for ArraySlice<T, Q> {
     ghost seen = { slice };
+
+    ghost counted = { T.is_counted };
+}
+
+impl<T: Element<Q>, Q: Stock> Collection<Value<T, Q>, Q> for ArraySlice<T, Q> {
+    ghost takes = { keeps_kind };
 
     fn count(&self) -> usize {
         self.count()
@@ -129,10 +181,6 @@ impl<T: Element<Q>, Q: Stock> Collection<T, Q> for ArraySlice<T, Q> {
 
     fn copy(&mut self, h: &mut Holder<Q>) -> ArraySlice<T, Q> {
         self.copy(h)
-    }
-
-    fn settle(&mut self) {
-        self.settle();
     }
 
     fn end(self, h: &mut Holder<Q>) {
@@ -161,10 +209,14 @@ impl<T: Element<Q>, Q: Stock> Collection<T, Q> for ArraySlice<T, Q> {
     fn change_by(
         &mut self,
         _statement: &Statement,
-        _other: &Kinds<T, Q>,
+        _other: &Value<T, Q>,
         _h: &mut Holder<Q>,
     ) -> Result<Result<(), Refusal>, NoMemory> {
         Ok(Err(Refusal::WrongKind))
+    }
+
+    fn refusal_by(&self, _statement: &Statement, _other: &Value<T, Q>) -> Option<Refusal> {
+        Some(Refusal::WrongKind)
     }
 
     fn parts(&self, statement: &Statement) -> bool {
@@ -175,7 +227,7 @@ impl<T: Element<Q>, Q: Stock> Collection<T, Q> for ArraySlice<T, Q> {
         }
     }
 
-    fn parts_by(&self, _statement: &Statement, _other: &Kinds<T, Q>) -> bool {
+    fn parts_by(&self, _statement: &Statement, _other: &Value<T, Q>) -> bool {
         true
     }
 
@@ -212,11 +264,11 @@ impl<T: Element<Q>, Q: Stock> Collection<T, Q> for ArraySlice<T, Q> {
     fn tell_both(
         &self,
         statement: &Statement,
-        other: &Kinds<T, Q>,
+        other: &Value<T, Q>,
         text: &mut Vec<u8>,
     ) -> Result<Result<(), Refusal>, NoMemory> {
         match (statement, other) {
-            (Statement::Equal { .. }, Kinds::Slice(other)) => {
+            (Statement::Equal { .. }, Value::Slice(other)) => {
                 equal(self, other, text)?;
                 Ok(Ok(()))
             }
@@ -224,8 +276,12 @@ impl<T: Element<Q>, Q: Stock> Collection<T, Q> for ArraySlice<T, Q> {
         }
     }
 
-    fn slice(&mut self, _i: i64, _j: i64, _h: &mut Holder<Q>) -> Result<Kinds<T, Q>, Refusal> {
+    fn slice(&mut self, _i: i64, _j: i64, _h: &mut Holder<Q>) -> Result<Value<T, Q>, Refusal> {
         Err(Refusal::WrongKind)
+    }
+
+    fn slice_refusal(&self, _i: i64, _j: i64) -> Option<Refusal> {
+        Some(Refusal::WrongKind)
     }
 }
 

@@ -1,175 +1,156 @@
-ghost use Rattle.std.specs.Prelude.{◌≡◌, ℕ, ◌+◌, ◌*◌, ◌^◌, ◌<◌, ◌≤◌, ◌++◌, [], false, Err, length, count_by, IfOk, OnOk, OnErr, MatchResult};
-ghost use Rattle.cow_model.specs.Atoms.{FitsTexts, counted_in};
-ghost use Rattle.cow_model.specs.Changes.{query_of};
-ghost use Rattle.cow_model.specs.Flat.{need};
-ghost use Rattle.cow_model.specs.Operation as spec;
-ghost use Rattle.cow_model.specs.Plain as plain;
-ghost use Rattle.cow_model.specs.Plain.{max_count};
-ghost use Rattle.cow_model.specs.Purse.{less};
-ghost use Rattle.cow_model.specs.Sharing.{literals};
-ghost use Rattle.cow_model.specs.declared.statement.Statement.{out-Statement};
-ghost use Rattle.cow_kinds.specs.Atoms.{is_rebase};
-ghost use Rattle.cow_kinds.specs.Held.{units_of};
-ghost use Rattle.cow_kinds.specs.Seen.{shared, stop, literals_of, given_by, Does, Costs, Tells};
-ghost use Rattle.cow_kinds.specs.Turns.{turn_of, turn_by_of, both_cost, TellsParts};
+// The kinds side by side: each call goes to that of its kind.
+ghost use Rattle.std.proofs.Common.{refl};
+ghost use Rattle.std.specs.Prelude.{true};
+ghost use Rattle.cow_kinds.specs.Values as values;
 
-use crate::collection::Collection;
 use crate::element::Element;
-use crate::kinds::Kinds;
+use crate::{array, slice};
+use cow_array::{Array, ArraySlice};
 use cow_cell::{Holder, Stock};
-use cow_model::{NoMemory, Refusal, Statement};
+use cow_model::{Kind, Literal, NoMemory, Refusal, Statement};
+use cow_value::{Collection, Shown, Values};
 use std::alloc::Global;
-use std::marker::Model;
 
-/// A value of any kind, of at most 65,536 elements.
+/// A value of any kind that is built.
 #[derive(Drop)]
-pub struct Value<T: Element<Q>, Q: Stock> {
-    kind: Kinds<T, Q>,
+pub enum Value<T: Element<Q>, Q: Stock> {
+    Array(Array<T, Q>),
+    Slice(ArraySlice<T, Q>),
 }
 
-impl<T: Element<Q>, Q: Stock> Model for Value<T, Q> {
-    ghost use Rattle.std.specs.Prelude.{◌≤◌};
-    ghost use Rattle.cow_model.specs.Plain.{count, max_count};
-    ghost use Rattle.cow_kinds.specs.Seen.{Seen};
-    ghost use Rattle.cow_kinds.specs.Values as kinds;
-
-    ghost Value = { Seen };
-
-    ghost view = { λ v. kinds.seen v.kind };
-
-    ghost invariant = { λ v. count (kinds.seen v.kind).value ≤ max_count };
-}
-
-impl<T: Element<Q>, Q: Stock> Value<T, Q> {
-    /// The number of elements: at most 65,536.
-    pub fn count(&self) -> usize
-        ensures count { result ≡ plain.count self.now.value }
-        ensures small { result ≤ max_count }
-    {
-        self.kind.count()
-    }
-
-    /// A second whole value, in one step: neither is alone.
-    pub fn copy(&mut self, h: &mut Holder<Q>) -> Value<T, Q>
-        requires { 1 ≤ h.old.spare }
-        ensures same { self.new ≡ shared self.old }
-        ensures copy { result ≡ shared self.old }
-        ensures spent { h.new ≡ less 1 h.old }
-    {
-        Value {
-            kind: self.kind.copy(h),
+// The call of each kind.
+macro_rules! each {
+    ($value:expr, $it:ident => $call:expr) => {
+        match $value {
+            Value::Array($it) => $call,
+            Value::Slice($it) => $call,
         }
+    };
+}
+
+// A value of the same kind.
+macro_rules! alike {
+    ($value:expr, $it:ident => $call:expr) => {
+        match $value {
+            Value::Array($it) => Value::Array($call),
+            Value::Slice($it) => Value::Slice($call),
+        }
+    };
+}
+
+impl<T: Element<Q>, Q: Stock> Shown<Value<T, Q>> for Value<T, Q> {
+    ghost seen = { values.seen };
+
+    ghost counted = { T.is_counted };
+}
+
+impl<T: Element<Q>, Q: Stock> Collection<Value<T, Q>, Q> for Value<T, Q> {
+    ghost takes = { λ statement. true };
+
+    fn count(&self) -> usize {
+        each!(self, it => Collection::count(it))
     }
 
-    /// Does a statement that changes one value, and appends what it prints to `text`.
-    pub fn change(
+    fn size(&self) -> usize {
+        each!(self, it => Collection::size(it))
+    }
+
+    fn stop(&self) -> usize {
+        each!(self, it => Collection::stop(it))
+    }
+
+    fn copy(&mut self, h: &mut Holder<Q>) -> Value<T, Q> {
+        alike!(self, it => Collection::copy(it, h))
+    }
+
+    fn end(self, h: &mut Holder<Q>) {
+        each!(self, it => Collection::end(it, h))
+    }
+
+    fn put(&self, text: &mut Vec<u8>) -> Result<(), NoMemory> {
+        each!(self, it => Collection::put(it, text))
+    }
+
+    fn change(
         &mut self,
         alloc: Global,
         statement: &Statement,
         text: &mut Vec<u8>,
         h: &mut Holder<Q>,
-    ) -> Result<Result<(), Refusal>, NoMemory>
-        requires kind { is_rebase (out-Statement statement.now) ≡ false }
-        requires texts { FitsTexts (out-Statement statement.now) }
-        requires near { stop self.old.value < 2 ^ 31 }
-        requires spare { need (2 * (plain.size self.old.value + literals (out-Statement statement.now)) + 1) ≤ h.old.spare }
-        ensures does { Does (turn_of (out-Statement statement.now)) self.old self.new
-            text.old.items text.new.items result }
-        ensures paid { Costs T.is_counted (literals_of T.is_counted (out-Statement statement.now))
-            (turn_of (out-Statement statement.now)) self.old self.new h.old h.new result }
-        ensures bare { units_of T.is_counted self.old.value ≡ 0 → counted_in T.is_counted (out-Statement statement.now) ≡ 0 → units_of T.is_counted self.new.value ≡ 0 }
-        ensures small { plain.count self.old.value ≤ max_count }
-    {
-        self.kind.change(alloc, statement, text, h)
+    ) -> Result<Result<(), Refusal>, NoMemory> {
+        if let Statement::Rebase { .. } = statement {
+            return slice::rebase(self, alloc, h);
+        }
+        each!(self, it => Collection::change(it, alloc, statement, text, h))
     }
 
-    /// Does a statement that changes one value by another; none of them prints.
-    pub fn change_by(
+    fn change_by(
         &mut self,
         statement: &Statement,
         other: &Value<T, Q>,
         h: &mut Holder<Q>,
-    ) -> Result<Result<(), Refusal>, NoMemory>
-        requires near { stop self.old.value < 2 ^ 31 }
-        requires spare { 2 ^ 24 ≤ h.old.spare }
-        ensures does { Does (turn_by_of (out-Statement statement.now) other.now.value)
-            self.old self.new [] [] result }
-        ensures paid { Costs T.is_counted (given_by T.is_counted (out-Statement statement.now) other.now)
-            (turn_by_of (out-Statement statement.now) other.now.value)
-            self.old self.new h.old h.new result }
-        ensures bare { units_of T.is_counted self.old.value ≡ 0 → units_of T.is_counted other.now.value ≡ 0 →
-            units_of T.is_counted self.new.value ≡ 0 }
-        ensures small { (plain.count self.old.value ≤ max_count) × (plain.count other.now.value ≤ max_count) }
-    {
-        self.kind.change_by(statement, &other.kind, h)
+    ) -> Result<Result<(), Refusal>, NoMemory> {
+        each!(self, it => Collection::change_by(it, statement, other, h))
     }
 
-    /// Whether a statement that isn't refused leaves the value alone where it wasn't.
-    pub fn parts(&self, statement: &Statement) -> bool
-        ensures { TellsParts result (turn_of (out-Statement statement.now)) self.now.value }
-    {
-        self.kind.parts(statement)
+    fn refusal_by(&self, statement: &Statement, other: &Value<T, Q>) -> Option<Refusal> {
+        each!(self, it => Collection::refusal_by(it, statement, other))
     }
 
-    /// The same of one that changes it by another value.
-    pub fn parts_by(&self, statement: &Statement, other: &Value<T, Q>) -> bool
-        ensures { TellsParts result (turn_by_of (out-Statement statement.now) other.now.value) self.now.value }
-    {
-        self.kind.parts_by(statement, &other.kind)
+    fn parts(&self, statement: &Statement) -> bool {
+        each!(self, it => Collection::parts(it, statement))
     }
 
-    /// The most copies of a change by another value, beside those of its elements.
-    pub fn both_cost(&self, alone: bool) -> usize
-        ensures { result ≡ both_cost alone self.now.value }
-    {
-        self.kind.both_cost(alone)
+    fn parts_by(&self, statement: &Statement, other: &Value<T, Q>) -> bool {
+        each!(self, it => Collection::parts_by(it, statement, other))
     }
 
-    /// The most copies of a statement, beside its literals.
-    pub fn cost(&self, statement: &Statement, alone: bool) -> usize
-        ensures cost { result ≡ (turn_of (out-Statement statement.now)).cost alone self.now.value }
-    {
-        self.kind.cost(statement, alone)
+    fn cost(&self, statement: &Statement, alone: bool) -> usize {
+        each!(self, it => Collection::cost(it, statement, alone))
     }
 
-    /// Appends the line of a statement that reads the value.
-    pub fn tell(
+    fn both_cost(&self, alone: bool) -> usize {
+        each!(self, it => Collection::both_cost(it, alone))
+    }
+
+    fn tell(
         &self,
         statement: &Statement,
         text: &mut Vec<u8>,
-    ) -> Result<Result<(), Refusal>, NoMemory>
-        ensures { Tells (query_of (out-Statement statement.now) self.now.value)
-            text.old.items text.new.items result }
-    {
-        self.kind.tell(statement, text)
+    ) -> Result<Result<(), Refusal>, NoMemory> {
+        each!(self, it => Collection::tell(it, statement, text))
     }
 
-    /// The index behind the last element.
-    pub fn stop(&self) -> usize
-        ensures { result ≡ stop self.now.value }
-    {
-        self.kind.stop()
+    fn tell_both(
+        &self,
+        statement: &Statement,
+        other: &Value<T, Q>,
+        text: &mut Vec<u8>,
+    ) -> Result<Result<(), Refusal>, NoMemory> {
+        each!(self, it => Collection::tell_both(it, statement, other, text))
     }
 
-    /// The number of atoms.
-    pub fn size(&self) -> usize
-        ensures { result ≡ plain.size self.now.value }
-    {
-        self.kind.size()
+    fn slice(&mut self, i: i64, j: i64, h: &mut Holder<Q>) -> Result<Value<T, Q>, Refusal> {
+        each!(self, it => Collection::slice(it, i, j, h))
     }
 
-    /// `let N = slice M I J`, in one step: both show their elements, and neither is alone.
-    pub fn slice(&mut self, i: i64, j: i64, h: &mut Holder<Q>) -> Result<Value<T, Q>, Refusal>
-        requires { 1 ≤ h.old.spare }
-        ensures answer { MatchResult result
-            (λ v. spec.slice i j self.old.value ≡ spec.silent v.value)
-            (λ why. spec.slice i j self.old.value ≡ Err why) }
-        ensures same { OnOk result (self.new ≡ shared self.old) }
-        ensures alone { IfOk result (λ v. v.alone ≡ false) }
-        ensures spent { OnOk result (h.new ≡ less 1 h.old) }
-        ensures refused { OnErr result ((self.new ≡ self.old) × (h.new ≡ h.old)) }
-    {
-        let kind = self.kind.slice(i, j, h)?;
-        Ok(Value { kind })
+    fn slice_refusal(&self, i: i64, j: i64) -> Option<Refusal> {
+        each!(self, it => Collection::slice_refusal(it, i, j))
     }
+}
+
+impl<T: Element<Q>, Q: Stock> Values<Q> for Value<T, Q> {
+    fn make(
+        alloc: Global,
+        kind: Kind,
+        atoms: &[Literal],
+        h: &mut Holder<Q>,
+    ) -> Result<Value<T, Q>, NoMemory> {
+        match kind {
+            Kind::Array => Ok(Value::Array(array::make(alloc, atoms, h)?)),
+            _ => unreachable!(),
+        }
+    }
+
+    ghost takes_all = { λ s. refl };
 }

@@ -3,7 +3,7 @@ use Rattle.std.specs.Prelude.{nat_eq}
 use Rattle.std.proofs.lemmas.Bool.Decides.{Decides-at, Decides-eqb}
 use Rattle.std.proofs.lemmas.Grind.{common_steps}
 use Rattle.cow_kinds.proofs.Alike.{extend-same}
-use Rattle.cow_kinds.proofs.array.ArrayCollection.parts_by.Goals as goal
+use Rattle.cow_kinds.proofs.array.ArrayCollectionValue.parts_by.Goals as goal
 
 pub returns-in-Extend-Array : goal.returns-in-Extend-Array
 returns-in-Extend-Array g c =

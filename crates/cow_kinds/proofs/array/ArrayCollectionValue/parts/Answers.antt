@@ -2,7 +2,7 @@ use Rattle.std.proofs.Common.{reverse, arith}
 use Rattle.std.proofs.lemmas.Grind.{common_steps}
 use Rattle.cow_kinds.proofs.Alike.{itself}
 use Rattle.cow_kinds.proofs.Equals.{tells-same}
-use Rattle.cow_kinds.proofs.array.ArrayCollection.parts.Goals as goal
+use Rattle.cow_kinds.proofs.array.ArrayCollectionValue.parts.Goals as goal
 
 pub returns-in-Reverse : goal.returns-in-Reverse
 returns-in-Reverse g c =
