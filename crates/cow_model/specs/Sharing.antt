@@ -61,15 +61,18 @@ pop_cost_of side alone v = own_cost_of alone v
 abbrev pub both_cost_of : Bool → Plain → ℕ
 both_cost_of alone v = if is_tree v then size v else own_cost_of alone v
 
--- the same of an entry, by its flag
+-- what a change of an entry's value allows
 abbrev pub own_cost : Entry → ℕ
 own_cost e = own_cost_of e.alone e.value
 
+-- a change of one key of it
 abbrev pub key_cost : Literal → Entry → ℕ
 key_cost a e = key_cost_of a e.alone e.value
 
+-- `pop`
 abbrev pub pop_cost : Side → Entry → ℕ
 pop_cost side e = pop_cost_of side e.alone e.value
 
+-- a change of it by another value
 abbrev pub both_cost : Entry → ℕ
 both_cost e = both_cost_of e.alone e.value
