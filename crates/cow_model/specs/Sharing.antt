@@ -1,7 +1,7 @@
 -- The sharing rule: how many copies a statement allows, and when a name's value is taken to be alone in its storage.
-use Rattle.std.specs.Prelude.{ℕ, ◌+◌, ◌*◌, min, ◌==◌, Bool, length, count_by, if◌then◌else◌}
+use Rattle.std.specs.Prelude.{ℕ, ◌+◌, ◌*◌, min, ◌==◌, Bool, true, false, not, ◌||◌, ◌&&◌, length, count_by, if◌then◌else◌}
 use Rattle.cow_model.specs.Hash.{literal_hash}
-use Rattle.cow_model.specs.Plain.{size, is_tree}
+use Rattle.cow_model.specs.Plain.{size, is_tree, same_plain}
 use Rattle.cow_model.specs.declared.plain.Literal.{Literal}
 use Rattle.cow_model.specs.declared.value.Plain.{Plain}
 use Rattle.cow_model.specs.declared.value.Plain.TheVariants.{Slice, TSet, TDict}
@@ -76,3 +76,20 @@ pop_cost side e = pop_cost_of side e.alone e.value
 -- a change of it by another value
 abbrev pub both_cost : Entry → ℕ
 both_cost e = both_cost_of e.alone e.value
+
+-- the first element of a slice goes without a change of its storage; any other change parts it from those who share it
+abbrev pub pop_parts : Side → Plain → Bool
+pop_parts First (Slice start items) = false
+pop_parts side v = true
+
+-- whether a value is alone after a change: it was, or it differs and the change parts it
+abbrev pub alone_if : Bool → Bool → Plain → Plain → Bool
+alone_if parts alone v v' = alone || parts && not (same_plain v v')
+
+-- whether an entry is alone after a change
+abbrev pub alone_after : Entry → Plain → Bool
+alone_after e value = alone_if true e.alone e.value value
+
+-- whether it is after `pop`
+abbrev pub alone_after_pop : Side → Entry → Plain → Bool
+alone_after_pop side e value = alone_if (pop_parts side e.value) e.alone e.value value

@@ -1,15 +1,13 @@
 -- The table of the statements that change a value: which definition each runs, how many copies it may make, and when the value is alone afterwards.
-use Rattle.std.specs.Prelude.{◌≡◌, ℕ, Bool, true, false, not, ◌||◌, ◌&&◌, ⊤, Ok, Err}
+use Rattle.std.specs.Prelude.{◌≡◌, ℕ, Bool, true, not, ◌&&◌, ⊤, Ok, Err}
 use Rattle.cow_model.specs.Changes.{change_of, change_by_of}
 use Rattle.cow_model.specs.Operation.{Answer, fitting, pop}
 use Rattle.cow_model.specs.Plain.{size, same_plain}
-use Rattle.cow_model.specs.Sharing.{Layer, own_cost_of, key_cost_of, pop_cost_of, both_cost_of}
+use Rattle.cow_model.specs.Sharing.{Layer, own_cost_of, key_cost_of, pop_cost_of, both_cost_of, pop_parts, alone_if}
 use Rattle.cow_model.specs.declared.plain.Literal.{Literal}
 use Rattle.cow_model.specs.declared.statement.Side.{Side}
-use Rattle.cow_model.specs.declared.statement.Side.TheVariants.{First}
 use Rattle.cow_model.specs.declared.statement.Statement.TheOpen.{Statement-F}
 use Rattle.cow_model.specs.declared.value.Plain.{Plain}
-use Rattle.cow_model.specs.declared.value.Plain.TheVariants.{Slice}
 
 -- a row: the answer; the most copies beside those of new atoms, by whether the value was alone; and whether a value that it changes is alone afterwards
 pub record Turn : Type 0 where
@@ -17,9 +15,9 @@ pub record Turn : Type 0 where
   pub cost : Bool → Plain → ℕ
   pub parts : Plain → Bool
 
--- whether a value is alone after a change: it was, or it differs
+-- whether a value is alone after its row
 abbrev pub alone_after : Turn → Bool → Plain → Plain → Bool
-alone_after t alone v v' = alone || t.parts v && not (same_plain v v')
+alone_after t alone v v' = alone_if (t.parts v) alone v v'
 
 -- a change of a whole value
 abbrev pub whole : (Plain → Answer) → Turn
@@ -28,11 +26,6 @@ whole run = record { run = λ v. fitting (run v); cost = own_cost_of; parts = λ
 -- a change of one key
 abbrev pub keyed : Literal → (Plain → Answer) → Turn
 keyed a run = record { run = λ v. fitting (run v); cost = key_cost_of a; parts = λ v. true }
-
--- the first element of a slice goes without a change of its storage
-abbrev pub pop_parts : Side → Plain → Bool
-pop_parts First (Slice start items) = false
-pop_parts side v = true
 
 -- `pop`
 abbrev pub popping : Side → Turn
