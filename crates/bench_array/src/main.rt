@@ -11,6 +11,7 @@ ghost use Rattle.cow_model.specs.Flat.{need};
 
 use cow_array::Array;
 use cow_cell::{Holder, Opening, Stock};
+use cow_item::{Atom, Item};
 use cow_model::NoMemory;
 use std::alloc::Global;
 use std::io;
@@ -125,6 +126,78 @@ fn shared<Q: Stock>(
     Ok(sum)
 }
 
+/// Whether the holder can pay for a change of the array.
+fn can_pay_atoms<Q: Stock>(a: &Array<Atom<Q>, Q>, h: &Holder<Q>) -> bool
+    ensures { IsTrue result → need (length a.now.value) ≤ h.now.spare }
+{
+    16 * (a.count() as u64) + 512 <= h.spare()
+}
+
+/// An array of the numbers below `size` as atoms, appended one by one.
+fn filled_atoms<Q: Stock>(
+    alloc: Global,
+    size: usize,
+    h: &mut Holder<Q>,
+) -> Result<Array<Atom<Q>, Q>, NoMemory>
+    requires { 1 ≤ h.old.spare }
+{
+    let mut a = Array::<Atom<Q>, Q>::new(alloc, h)?;
+    for i in 0..size {
+        if a.count() < MOST && can_pay_atoms(&a, h) {
+            a.append(Atom::Int((i % MOST) as i64), h).map_err(|e| e.0)?;
+        }
+    }
+    Ok(a)
+}
+
+/// Sets the first atom of a copy in each round, so that all are copied, and ends the copy.
+fn atoms<Q: Stock>(
+    alloc: Global,
+    opening: Opening,
+    size: usize,
+    rounds: u64,
+) -> Result<i64, NoMemory>
+    requires { Opens Q.Stock opening }
+{
+    let mut h = Holder::<Q>::fresh(opening);
+    let mut a = filled_atoms(alloc, size, &mut h)?;
+    let mut sum = 0i64;
+    for _ in 0..rounds {
+        if 0 < h.spare() {
+            let mut b = a.copy(&mut h);
+            if 0 < b.count() && can_pay_atoms(&b, &h) {
+                let old = b.set(0, Atom::Int(7), &mut h).map_err(|e| e.0)?;
+                old.end(&mut h);
+                sum = sum.wrapping_add(1);
+            }
+            b.end(&mut h);
+        }
+    }
+    a.end(&mut h);
+    Ok(sum)
+}
+
+/// Fills an array of atoms in each round, and ends it.
+fn appends<Q: Stock>(
+    alloc: Global,
+    opening: Opening,
+    size: usize,
+    rounds: u64,
+) -> Result<i64, NoMemory>
+    requires { Opens Q.Stock opening }
+{
+    let mut h = Holder::<Q>::fresh(opening);
+    let mut sum = 0i64;
+    for _ in 0..rounds {
+        if 0 < h.spare() {
+            let a = filled_atoms(alloc, size, &mut h)?;
+            sum = sum.wrapping_add(a.count() as i64);
+            a.end(&mut h);
+        }
+    }
+    Ok(sum)
+}
+
 /// Runs one workload and prints what it answers.
 fn report<R: Alloc<A = Global> + Print>(
     rt: &R,
@@ -137,6 +210,8 @@ fn report<R: Alloc<A = Global> + Print>(
         "get" => get::<Brand>(rt.alloc(), Opening::new(), size, rounds),
         "set" => set::<Brand>(rt.alloc(), Opening::new(), size, rounds),
         "shared" => shared::<Brand>(rt.alloc(), Opening::new(), size, rounds),
+        "atoms" => atoms::<Brand>(rt.alloc(), Opening::new(), size, rounds),
+        "appends" => appends::<Brand>(rt.alloc(), Opening::new(), size, rounds),
         _ => return println!(rt; "append, get, set or shared"),
     };
     match done {

@@ -69,10 +69,7 @@ impl<T: Item<Q>, Q: Stock> Array<T, Q> {
             Ok(cell) => cell,
             Err((refused, _row)) => return Err((refused, items)),
         };
-        match cell.sole(h) {
-            Some(row) => storage::take_items(items, row),
-            None => unreachable!(),
-        }
+        storage::take_items(items, cell.only());
         Ok(Array { cell, alloc })
     }
 
@@ -154,10 +151,7 @@ impl<T: Item<Q>, Q: Stock> Array<T, Q> {
         }
         let mut x = x;
         x.settle();
-        match self.cell.sole(h) {
-            Some(row) => row.push(x),
-            None => unreachable!(),
-        }
+        self.cell.only().push(x);
         Ok(())
     }
 
@@ -178,10 +172,7 @@ impl<T: Item<Q>, Q: Stock> Array<T, Q> {
         }
         let mut x = x;
         x.settle();
-        match self.cell.sole(h) {
-            Some(row) => Ok(row.replace(i, x)),
-            None => unreachable!(),
-        }
+        Ok(self.cell.only().replace(i, x))
     }
 
     /// `x` stands at `i`; what stood there and behind moves up.
@@ -201,10 +192,7 @@ impl<T: Item<Q>, Q: Stock> Array<T, Q> {
         }
         let mut x = x;
         x.settle();
-        match self.cell.sole(h) {
-            Some(row) => row.insert(i, x),
-            None => unreachable!(),
-        }
+        self.cell.only().insert(i, x);
         Ok(())
     }
 
@@ -220,10 +208,7 @@ impl<T: Item<Q>, Q: Stock> Array<T, Q> {
         ensures paid { Pays T.is_counted T.WEIGHT self.old h.old h.new }
     {
         storage::prepare(&mut self.cell, self.alloc, 0, h)?;
-        match self.cell.sole(h) {
-            Some(row) => Ok(row.remove(i)),
-            None => unreachable!(),
-        }
+        Ok(self.cell.only().remove(i))
     }
 
     /// The last element, taken out; `None` exactly where there is none. One step where the storage is
@@ -243,10 +228,7 @@ impl<T: Item<Q>, Q: Stock> Array<T, Q> {
             return Ok(None);
         }
         storage::prepare(&mut self.cell, self.alloc, 0, h)?;
-        match self.cell.sole(h) {
-            Some(row) => Ok(row.pop()),
-            None => unreachable!(),
-        }
+        Ok(self.cell.only().pop())
     }
 
     /// Elements `i` and `j` in each other's place. One step where the storage is unshared.
@@ -261,10 +243,7 @@ impl<T: Item<Q>, Q: Stock> Array<T, Q> {
         ensures paid { Pays T.is_counted T.WEIGHT self.old h.old h.new }
     {
         storage::prepare(&mut self.cell, self.alloc, 0, h)?;
-        match self.cell.sole(h) {
-            Some(row) => row.swap(i, j),
-            None => unreachable!(),
-        }
+        self.cell.only().swap(i, j);
         Ok(())
     }
 
@@ -278,10 +257,7 @@ impl<T: Item<Q>, Q: Stock> Array<T, Q> {
         ensures paid { Pays T.is_counted T.WEIGHT self.old h.old h.new }
     {
         storage::prepare(&mut self.cell, self.alloc, 0, h)?;
-        match self.cell.sole(h) {
-            Some(row) => row.reverse(),
-            None => unreachable!(),
-        }
+        self.cell.only().reverse();
         Ok(())
     }
 
@@ -308,10 +284,7 @@ impl<T: Item<Q>, Q: Stock> Array<T, Q> {
         if let Err(refused) = storage::prepare(&mut self.cell, self.alloc, extra, h) {
             return Err((refused, items));
         }
-        match self.cell.sole(h) {
-            Some(row) => row::replace_run(row, i, j - i, items, h),
-            None => unreachable!(),
-        }
+        row::replace_run(self.cell.only(), i, j - i, items, h);
         Ok(())
     }
 
@@ -327,10 +300,7 @@ impl<T: Item<Q>, Q: Stock> Array<T, Q> {
     {
         let from = other.cell.get();
         storage::prepare(&mut self.cell, self.alloc, from.len(), h)?;
-        match self.cell.sole(h) {
-            Some(row) => storage::copy_run(from, 0, from.len(), row, h),
-            None => unreachable!(),
-        }
+        storage::copy_run(from, 0, from.len(), self.cell.only(), h);
         Ok(())
     }
 

@@ -147,10 +147,7 @@ impl<T: Item<Q>, Q: Stock> ArraySlice<T, Q> {
         }
         let mut x = x;
         x.settle();
-        match self.cell.sole(h) {
-            Some(row) => Ok(row.replace(self.from + (i - self.start), x)),
-            None => unreachable!(),
-        }
+        Ok(self.cell.only().replace(self.from + (i - self.start), x))
     }
 
     /// `x` stands last, and the start stays. One step over many calls where the storage is unshared,
@@ -176,10 +173,7 @@ impl<T: Item<Q>, Q: Stock> ArraySlice<T, Q> {
         }
         let mut x = x;
         x.settle();
-        match self.cell.sole(h) {
-            Some(row) => storage::put_behind(row, self.from + self.count, x, h),
-            None => unreachable!(),
-        }
+        storage::put_behind(self.cell.only(), self.from + self.count, x, h);
         self.count += 1;
         Ok(())
     }

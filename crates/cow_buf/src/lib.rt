@@ -20,7 +20,5 @@
 mod buf;
 mod memory;
 mod runs;
-#[cfg(test)]
-mod tests;
 
 pub use buf::Buf;

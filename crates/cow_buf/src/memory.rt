@@ -1,5 +1,5 @@
 // One block of memory as a row of places, each of which is empty or holds a value.
-ghost use Rattle.std.specs.Prelude.{◌≡◌, ℕ, ◌+◌, ◌<◌, ◌≤◌, min, max, List, Option, Some, None, length, take, drop, replicate, slice_set, IfOk};
+ghost use Rattle.std.specs.Prelude.{◌≡◌, ℕ, ◌+◌, ◌<◌, ◌≤◌, min, max, List, Option, Some, None, length, map, take, drop, replicate, slice_set, IfOk};
 ghost use Rattle.std.specs.List.{splice};
 ghost use Rattle.std.specs.Borrow.{sem};
 ghost use Rattle.std.specs.Vec.Ownership.{FitsInBlock};
@@ -9,7 +9,7 @@ ghost use Rattle.cow_buf.specs.Block.{block_owns, block_lends};
 use std::alloc::{AllocError, Allocator, Global};
 use std::marker::{Model, Send, Sync};
 use std::mem::{align_of, size_of};
-use std::ptr;
+use std::{ptr, slice};
 
 // The owner of one block of the global allocator: of the values in its places, and of the right to free it.
 pub(crate) struct Memory<T> {
@@ -77,6 +77,14 @@ impl<T> Memory<T> {
         ensures { place self.now.places i ≡ Some result.now }
     {
         unsafe { &*self.start.add(i) }
+    }
+
+    // Lends the values of a run.
+    pub(crate) fn run(&self, from: usize, n: usize) -> &[T]
+        requires { IsRun self.now.places from n }
+        ensures { map Some result.now ≡ take n (drop from self.now.places) }
+    {
+        unsafe { slice::from_raw_parts(self.start.add(from), n) }
     }
 
     // Lends the value of a place for writing.

@@ -60,6 +60,17 @@ impl<Q: Stock> Item<Q> for Atom<Q> {
         }
     }
 
+    fn twin(&self, h: &mut Holder<Q>) -> Self {
+        match self {
+            Atom::Int(x) => Atom::Int(*x),
+            Atom::Text(t) => Atom::Text(t.twin(h)),
+        }
+    }
+
+    fn note(n: u64, h: &mut Holder<Q>) {
+        h.note(n);
+    }
+
     fn settle(&mut self) {
         match self {
             Atom::Int(_) => {}

@@ -1,4 +1,4 @@
-ghost use Rattle.std.specs.Prelude.{◌≡◌, ℕ, ◌≤◌, ◌↔◌, Bool, IsTrue};
+ghost use Rattle.std.specs.Prelude.{◌≡◌, ℕ, ◌*◌, ◌≤◌, ◌↔◌, Bool, IsTrue};
 ghost use Rattle.cow_model.specs.Purse.{less, more, noted, unit_if};
 ghost use Rattle.cow_model.specs.Order.{literal_cmp};
 ghost use Rattle.cow_model.specs.declared.plain.Literal.{Literal as Plain};
@@ -29,6 +29,18 @@ pub trait Item<Q: Stock>: Sized + Drop {
         ensures same { plain result ≡ plain self.now }
         ensures settled { IsSettled result }
         ensures paid { h.new ≡ noted WEIGHT (less (unit_if (is_counted (plain self.now))) h.old) };
+
+    /// The same, but `copied` stays: whoever copies many items counts them by one call of `note`.
+    fn twin(&self, h: &mut Holder<Q>) -> Self
+        requires settled { IsSettled self.now }
+        requires spare { 1 ≤ h.old.spare }
+        ensures same { plain result ≡ plain self.now }
+        ensures settled { IsSettled result }
+        ensures paid { h.new ≡ less (unit_if (is_counted (plain self.now))) h.old };
+
+    /// Counts n items that `twin` copied.
+    fn note(n: u64, h: &mut Holder<Q>)
+        ensures { h.new ≡ noted (WEIGHT * n) h.old };
 
     /// Gives up the knowledge that a handle in it is alone, so that it can be copied. Nothing at run time.
     fn settle(&mut self)

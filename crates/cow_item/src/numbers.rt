@@ -24,6 +24,14 @@ impl<Q: Stock> Item<Q> for i64 {
         *self
     }
 
+    fn twin(&self, _h: &mut Holder<Q>) -> Self {
+        *self
+    }
+
+    fn note(n: u64, h: &mut Holder<Q>) {
+        h.note(n);
+    }
+
     fn settle(&mut self) {}
 
     fn end(self, _h: &mut Holder<Q>) {}
@@ -57,6 +65,10 @@ impl<Q: Stock> Item<Q> for () {
     ghost is_counted = { λ _. false };
 
     fn copy(&self, _h: &mut Holder<Q>) -> Self {}
+
+    fn twin(&self, _h: &mut Holder<Q>) -> Self {}
+
+    fn note(_n: u64, _h: &mut Holder<Q>) {}
 
     fn settle(&mut self) {}
 

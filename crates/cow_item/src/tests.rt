@@ -43,6 +43,18 @@ impl<Q: Stock> Item<Q> for Part<Q> {
         }
     }
 
+    fn twin(&self, h: &mut Holder<Q>) -> Self {
+        Part {
+            size: self.size,
+            colour: self.colour,
+            name: self.name.twin(h),
+        }
+    }
+
+    fn note(n: u64, h: &mut Holder<Q>) {
+        h.note(n);
+    }
+
     fn settle(&mut self) {
         self.name.settle();
     }
@@ -252,6 +264,16 @@ impl<Q: Stock> Item<Q> for Shared<Q> {
         Shared {
             cell: self.cell.share_settled(h),
         }
+    }
+
+    fn twin(&self, h: &mut Holder<Q>) -> Self {
+        Shared {
+            cell: self.cell.share_settled(h),
+        }
+    }
+
+    fn note(n: u64, h: &mut Holder<Q>) {
+        h.note(n);
     }
 
     fn settle(&mut self) {

@@ -76,6 +76,16 @@ impl<Q: Stock> Item<Q> for Text<Q> {
         }
     }
 
+    fn twin(&self, h: &mut Holder<Q>) -> Self {
+        Text {
+            cell: self.cell.share_settled(h),
+        }
+    }
+
+    fn note(n: u64, h: &mut Holder<Q>) {
+        h.note(n);
+    }
+
     fn settle(&mut self) {
         self.cell.settle();
     }

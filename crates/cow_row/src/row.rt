@@ -1,8 +1,8 @@
-ghost use Rattle.std.specs.Prelude.{◌≡◌, ◌+◌, ◌-◌, ◌<◌, ◌≤◌, ◌^◌, [], ◌∷◌, ◌++◌, length, map, count_by, All, IsPermutation, slice_get, slice_set, take, drop, insert, remove, swap, reverse, IfOk, IfNone, IfSome, OnOk, OnErr, IsOk, Some, None, max};
+ghost use Rattle.std.specs.Prelude.{◌≡◌, ◌+◌, ◌-◌, ◌*◌, ◌<◌, ◌≤◌, ◌^◌, [], ◌∷◌, ◌++◌, length, map, count_by, All, IsPermutation, slice_get, slice_set, take, drop, insert, remove, swap, reverse, IfOk, IfNone, IfSome, OnOk, OnErr, IsOk, Some, None, max};
 ghost use Rattle.std.specs.List.{splice};
 ghost use Rattle.cow_buf.specs.Places.{IsRun, IsClear, blanked};
 ghost use Rattle.cow_model.specs.Purse.{more};
-ghost use Rattle.cow_row.specs.Places.{somes};
+ghost use Rattle.cow_row.specs.Places.{somes, IsPacked};
 
 use cow_buf::Buf;
 use cow_cell::{Holder, Stock};
@@ -10,9 +10,9 @@ use cow_item::Item;
 use cow_model::NoMemory;
 use std::alloc::Global;
 use std::marker::Model;
+use std::mem;
 
 /// Items side by side in a buffer, with empty places before and behind them.
-#[derive(Drop)]
 pub struct Row<T> {
     buf: Buf<T>,
     /// How many places before the first item are empty.
@@ -30,6 +30,20 @@ impl<T> Model for Row<T> {
     ghost view = { λ r. record { items = somes r.buf; front = r.front; capacity = length r.buf - r.front } };
 
     ghost invariant = { λ r. IsPacked r.buf r.front r.len };
+}
+
+impl<T: Drop> Drop for Row<T> {
+    fn drop(self) {
+        let Row {
+            mut buf,
+            front,
+            len,
+        } = self;
+        for i in 0..len {
+            let _item = buf.take(front + i);
+        }
+        buf.free();
+    }
 }
 
 impl<T: Drop> Row<T> {
@@ -68,6 +82,13 @@ impl<T: Drop> Row<T> {
         ensures { slice_get self.now.items i ≡ Some result.now }
     {
         self.buf.at(self.front + i)
+    }
+
+    /// The items, in order.
+    pub fn as_slice(&self) -> &[T]
+        ensures { result.now ≡ self.now.items }
+    {
+        self.buf.run(self.front, self.len)
     }
 
     /// `x` stands last. One step.
@@ -188,8 +209,9 @@ impl<T: Drop> Row<T> {
         }
         let mut wider = Buf::with_capacity(alloc, n)?;
         self.to_front();
-        self.buf.drain_into(&mut wider);
-        self.buf = wider;
+        let len = self.len;
+        self.buf.drain_into(&mut wider, len);
+        mem::replace(&mut self.buf, wider).free();
         Ok(())
     }
 
@@ -225,6 +247,88 @@ impl<T: Drop> Row<T> {
         self.len -= 1;
         item
     }
+}
+
+/// Copies of the `count` items of `from` from `start` on stand last in `to`. Takes no memory.
+pub fn copy_run<T: Item<Q>, Q: Stock>(
+    from: &Row<T>,
+    start: usize,
+    count: usize,
+    to: &mut Row<T>,
+    h: &mut Holder<Q>,
+)
+    requires within { start + count ≤ length from.now.items }
+    requires small { length from.now.items ≤ 2 ^ 31 }
+    requires from_settled { All T.IsSettled from.now.items }
+    requires to_settled { All T.IsSettled to.old.items }
+    requires room { length to.old.items + count ≤ to.old.capacity }
+    requires spare { count ≤ h.old.spare }
+    ensures same { map T.plain to.new.items ≡ map T.plain to.old.items ++ map T.plain (take count (drop start from.now.items)) }
+    ensures count { length to.new.items ≡ length to.old.items + count }
+    ensures settled { All T.IsSettled to.new.items }
+    ensures capacity { to.new.capacity ≡ to.old.capacity }
+    ensures front { to.new.front ≡ to.old.front }
+    ensures units { h.new.spare + count_by T.is_counted (map T.plain (take count (drop start from.now.items))) ≡ h.old.spare }
+    ensures copied { h.new.copied ≤ h.old.copied + T.WEIGHT * count }
+    ensures kept { h.old.copied ≤ h.new.copied }
+{
+    let front = to.front;
+    let len = to.len;
+    copy_places(from.as_slice(), start, count, &mut to.buf, front, len, h);
+    to.len = len + count;
+    T::note(count as u64, h);
+}
+
+/// Puts copies of the `count` items of `from` from `start` on, which nobody has counted, into the places
+/// behind the `len` items that stand behind `front` empty places.
+fn copy_places<T: Item<Q>, Q: Stock>(
+    from: &[T],
+    start: usize,
+    count: usize,
+    to: &mut Buf<T>,
+    front: usize,
+    len: usize,
+    h: &mut Holder<Q>,
+)
+    requires within { start + count ≤ length from.now }
+    requires small { length from.now ≤ 2 ^ 31 }
+    requires from_settled { All T.IsSettled from.now }
+    requires packed { IsPacked to.old front len }
+    requires to_settled { All T.IsSettled (somes to.old) }
+    requires room { front + len + count ≤ length to.old }
+    requires spare { count ≤ h.old.spare }
+    ensures packed { IsPacked to.new front (len + count) }
+    ensures long { length to.new ≡ length to.old }
+    ensures same { map T.plain (somes to.new) ≡ map T.plain (somes to.old) ++ map T.plain (take count (drop start from.now)) }
+    ensures settled { All T.IsSettled (somes to.new) }
+    ensures units { h.new.spare + count_by T.is_counted (map T.plain (take count (drop start from.now))) ≡ h.old.spare }
+    ensures copied { h.new.copied ≡ h.old.copied }
+{
+    let mut n = len;
+    for i in 0..count {
+        let x = item(from, start + i).twin(h);
+        to.put(front + n, x);
+        n += 1;
+    }
+}
+
+/// Item `i` of a slice.
+fn item<T>(from: &[T], i: usize) -> &T
+    requires { i < length from.now }
+    ensures { slice_get from.now i ≡ Some result.now }
+{
+    &from[i]
+}
+
+/// Ends each item; the empty row keeps its places. Takes no memory.
+pub fn end_items<T: Item<Q>, Q: Stock>(row: &mut Row<T>, h: &mut Holder<Q>)
+    ensures empty { row.new ≡ record row.old { items = [] } }
+    ensures paid { h.new ≡ more (count_by T.is_counted (map T.plain row.old.items)) h.old }
+{
+    let front = row.front;
+    let len = row.len;
+    end_places(&mut row.buf, front, len, h);
+    row.len = 0;
 }
 
 /// The items of `items`, settled, stand in the place of the `count` items from `start` on, which end.

@@ -1,43 +1,15 @@
-ghost use Rattle.std.specs.Prelude.{◌≡◌, ℕ, ◌+◌, ◌-◌, ◌*◌, ◌<◌, ◌≤◌, ◌^◌, List, [], ◌∷◌, ◌++◌, length, map, take, drop, count_by, max, OnOk, OnErr, IfOk, IsOk, All, ◌⊎◌, true, false, if◌then◌else◌};
+ghost use Rattle.std.specs.Prelude.{◌≡◌, ℕ, ◌+◌, ◌-◌, ◌*◌, ◌<◌, ◌≤◌, ◌^◌, List, [], ◌∷◌, ◌++◌, length, map, take, drop, count_by, max, OnOk, OnErr, IfOk, IsOk, IsTrue, All, ◌⊎◌, true, false, if◌then◌else◌};
 ghost use Rattle.cow_model.specs.Purse.{Moves, less, more, unit_if};
 ghost use Rattle.cow_row.specs.RowView.{IsSound};
 ghost use Rattle.cow_model.specs.Flat.{copies};
 
 use crate::row::Row;
+pub use crate::row::{copy_run, end_items};
 use cow_cell::{Counted, Holder, Stock};
 use cow_item::Item;
 use cow_model::NoMemory;
 use std::alloc::Global;
 use std::mem;
-
-/// Copies of the `count` items of `from` from `start` on stand last in `to`. Takes no memory.
-pub fn copy_run<T: Item<Q>, Q: Stock>(
-    from: &Row<T>,
-    start: usize,
-    count: usize,
-    to: &mut Row<T>,
-    h: &mut Holder<Q>,
-)
-    requires within { start + count ≤ length from.now.items }
-    requires small { length from.now.items ≤ 2 ^ 31 }
-    requires from_settled { All T.IsSettled from.now.items }
-    requires to_settled { All T.IsSettled to.old.items }
-    requires room { length to.old.items + count ≤ to.old.capacity }
-    requires spare { count ≤ h.old.spare }
-    ensures same { map T.plain to.new.items ≡ map T.plain to.old.items ++ map T.plain (take count (drop start from.now.items)) }
-    ensures count { length to.new.items ≡ length to.old.items + count }
-    ensures settled { All T.IsSettled to.new.items }
-    ensures capacity { to.new.capacity ≡ to.old.capacity }
-    ensures front { to.new.front ≡ to.old.front }
-    ensures units { h.new.spare + count_by T.is_counted (map T.plain (take count (drop start from.now.items))) ≡ h.old.spare }
-    ensures copied { h.new.copied ≤ h.old.copied + T.WEIGHT * count }
-    ensures kept { h.old.copied ≤ h.new.copied }
-{
-    for i in 0..count {
-        let x = from.get(start + i).copy(h);
-        to.push(x);
-    }
-}
 
 /// The items, settled, stand last in `to`. Takes no memory.
 pub fn take_items<T: Item<Q>, Q: Stock>(items: Vec<T>, to: &mut Row<T>)
@@ -53,16 +25,6 @@ pub fn take_items<T: Item<Q>, Q: Stock>(items: Vec<T>, to: &mut Row<T>)
         let mut x = x;
         x.settle();
         to.push(x);
-    }
-}
-
-/// Ends each item; the empty row keeps its places. Takes no memory.
-pub fn end_items<T: Item<Q>, Q: Stock>(row: &mut Row<T>, h: &mut Holder<Q>)
-    ensures empty { row.new ≡ record row.old { items = [] } }
-    ensures paid { h.new ≡ more (count_by T.is_counted (map T.plain row.old.items)) h.old }
-{
-    while let Some(x) = row.pop() {
-        x.end(h);
     }
 }
 
@@ -123,10 +85,7 @@ pub fn renew<T: Item<Q>, Q: Stock>(
         Ok(fresh) => fresh,
         Err((refused, _row)) => return Err(refused),
     };
-    match fresh.sole(h) {
-        Some(to) => copy_run(cell.get(), start, count, to, h),
-        None => unreachable!(),
-    }
+    copy_run(cell.get(), start, count, fresh.only(), h);
     let old = mem::replace(cell, fresh);
     end_cell(old, h);
     Ok(())
@@ -135,7 +94,66 @@ pub fn renew<T: Item<Q>, Q: Stock>(
 /// Makes the handle alone, with room for `extra` more items behind the `count` from `start` on, and
 /// answers where these begin then. An unshared storage stays, with all its items; one that others
 /// hold too is renewed from the run alone.
+#[inline]
 pub fn prepare_run<T: Item<Q>, Q: Stock>(
+    cell: &mut Counted<Row<T>, Q>,
+    start: usize,
+    count: usize,
+    alloc: Global,
+    extra: usize,
+    h: &mut Holder<Q>,
+) -> Result<usize, NoMemory>
+    requires sound { IsSound T.IsSettled cell.old.value }
+    requires within { start + count ≤ length cell.old.value.items }
+    requires growth { start + count + extra ≤ 2 ^ 31 }
+    requires spare { count + 1 ≤ h.old.spare }
+    ensures same { IfOk result (λ s. map T.plain (take count (drop s cell.new.value.items)) ≡ map T.plain (take count (drop start cell.old.value.items))) }
+    ensures place { IfOk result (λ s. (s ≤ start) × (s + count ≤ length cell.new.value.items)) }
+    ensures fewer { length cell.new.value.items ≤ length cell.old.value.items }
+    ensures units { count_by T.is_counted (map T.plain cell.new.value.items) ≤ count_by T.is_counted (map T.plain cell.old.value.items) }
+    ensures sound { IsSound T.IsSettled cell.new.value }
+    ensures front { cell.new.value.front ≤ cell.old.value.front }
+    ensures alone { OnOk result (cell.new.alone ≡ true) }
+    ensures room { IfOk result (λ s. s + count + extra ≤ cell.new.value.capacity) }
+    ensures doubled { cell.old.value.capacity ≡ start + count → 0 < extra → OnOk result (2 * count ≤ cell.new.value.capacity) }
+    ensures in_place { cell.old.alone ≡ true → start + count + extra ≤ cell.old.value.capacity → IsOk result × (cell.new ≡ cell.old) }
+    ensures still { cell.old.alone ≡ true → IfOk result (λ s. s ≡ start) }
+    ensures kept_or_renewed { IfOk result (λ s. (h.new ≡ h.old) ⊎ (length cell.new.value.items ≡ s + count)) }
+    ensures refused { OnErr result ((cell.new.value ≡ cell.old.value) × (h.new ≡ h.old)) }
+    ensures kept { OnErr result (cell.old.alone ≡ true → cell.new.alone ≡ true) }
+    ensures falls { h.old.spare ≤ h.new.spare + count }
+    ensures no_gain { h.new.spare + count_by T.is_counted (map T.plain cell.new.value.items) ≤ h.old.spare + count_by T.is_counted (map T.plain cell.old.value.items) }
+    ensures moved { Moves (count_by T.is_counted (map T.plain cell.old.value.items)) (copies cell.old.alone (T.WEIGHT * count)) h.old h.new }
+{
+    if has_room(cell, start + count + extra, h) {
+        return Ok(start);
+    }
+    make_room(cell, start, count, alloc, extra, h)
+}
+
+/// Whether the handle is alone with room for `wanted` items. It is known to be alone then.
+#[inline]
+fn has_room<T: Drop, Q: Stock>(
+    cell: &mut Counted<Row<T>, Q>,
+    wanted: usize,
+    h: &mut Holder<Q>,
+) -> bool
+    ensures value { cell.new.value ≡ cell.old.value }
+    ensures yes { IsTrue result → (cell.new.alone ≡ true) × (wanted ≤ cell.old.value.capacity) }
+    ensures always { cell.old.alone ≡ true → wanted ≤ cell.old.value.capacity → IsTrue result }
+    ensures same { cell.old.alone ≡ true → cell.new ≡ cell.old }
+    ensures purse { h.new ≡ h.old }
+{
+    match cell.sole(h) {
+        Some(row) => wanted <= row.capacity(),
+        None => false,
+    }
+}
+
+/// The same where the handle may be shared or without room.
+#[cold]
+#[inline(never)]
+fn make_room<T: Item<Q>, Q: Stock>(
     cell: &mut Counted<Row<T>, Q>,
     start: usize,
     count: usize,
@@ -175,6 +193,7 @@ pub fn prepare_run<T: Item<Q>, Q: Stock>(
 }
 
 /// Makes the handle alone, with room for `extra` more items.
+#[inline]
 pub fn prepare<T: Item<Q>, Q: Stock>(
     cell: &mut Counted<Row<T>, Q>,
     alloc: Global,

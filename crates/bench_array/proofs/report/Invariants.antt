@@ -12,3 +12,9 @@ ghosts-set g a = record { name = a.opening.name; ids = a.opening.ids }
 
 abbrev pub ghosts-shared : goal.ghosts-shared
 ghosts-shared g a = record { name = a.opening.name; ids = a.opening.ids }
+
+abbrev pub ghosts-atoms : goal.ghosts-atoms
+ghosts-atoms g a = record { name = a.opening.name; ids = a.opening.ids }
+
+abbrev pub ghosts-appends : goal.ghosts-appends
+ghosts-appends g a = record { name = a.opening.name; ids = a.opening.ids }

@@ -3,7 +3,13 @@ use Rattle.std.proofs.lemmas.Grind.{common_steps}
 use Rattle.std.proofs.lemmas.List.{length-take-le, length-drop, map-append, take-map, drop-map}
 use Rattle.cow_row.specs.Places.{somes}
 use Rattle.cow_row.proofs.Splices.{is_run, items-of-run, emptied, widened, replaced-row, gap-empty, length-splice, All-splice}
+use Rattle.cow_row.proofs.Whole.{run-behind-blank}
 use Rattle.cow_row.proofs.row.replace_run.Goals as goal
+
+pub shift-requires-clause-run : goal.shift-requires-clause-run
+shift-requires-clause-run g c =
+    let within = rw (← c.row.view_is) at c.requires.within in
+    rw c.end_places.ensures.places (run-behind-blank c.row.inside.buf c.row.inside.front c.row.inside.len c.args.start c.args.count c.row.invariant (omega (arith, within, c.row.invariant.count)))
 
 pub end_places-requires-clause-filled : goal.end_places-requires-clause-filled
 end_places-requires-clause-filled g c =
