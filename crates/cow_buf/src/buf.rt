@@ -8,8 +8,11 @@ use std::alloc::Global;
 use std::marker::Model;
 use std_alloc::room::may_hold;
 
-/// A block of memory with room for a fixed number of values. It keeps no record of which places are filled,
-/// so it has no drop: whoever has one empties it and frees it.
+/// One block of memory with room for a fixed number of values: a pointer and a number.
+///
+/// No call but `with_capacity` takes memory. Each is one step, and `shift` and `drain_into` are one move of
+/// memory. A buffer doesn't note which places are filled, so it has no drop: whoever has one takes its values
+/// out and frees it.
 pub struct Buf<T> {
     memory: Memory<T>,
     alloc: Global,
@@ -31,7 +34,8 @@ impl<T> Model for Buf<T> {
 impl<T> Buf<T> {
     ghost use Rattle.cow_buf.specs.BufLends.{lends_place};
 
-    /// `n` empty places. Want of memory is also the answer for a block of 2^63 bytes or more.
+    /// `n` empty places, by one allocation and no pass over them. Answers `NoMemory` only for want of memory,
+    /// which a block of 2^63 bytes or more is too.
     pub fn with_capacity(alloc: Global, n: usize) -> Result<Buf<T>, NoMemory>
         requires { n ≤ 2 ^ 32 }
         ensures { IfOk result (λ b. b ≡ replicate n None) }
@@ -94,7 +98,7 @@ impl<T> Buf<T> {
         self.memory.at(i)
     }
 
-    /// What the `n` places from `from` on hold, which are all filled.
+    /// What the `n` places from `from` on hold, which are all filled, as one slice.
     pub fn run(&self, from: usize, n: usize) -> &[T]
         requires { IsRun self.now from n }
         ensures { map Some result.now ≡ take n (drop from self.now) }
@@ -113,7 +117,7 @@ impl<T> Buf<T> {
 
     /// Moves the values in the `n` places from `from` on to those from `to` on, which may overlap them. Places
     /// of the new run outside the old one are empty before, and places of the old run outside the new one are
-    /// empty after. One move of memory.
+    /// empty after.
     pub fn shift(&mut self, from: usize, to: usize, n: usize)
         requires run { IsRun self.old from n }
         requires to { to + n ≤ length self.old }
@@ -124,7 +128,7 @@ impl<T> Buf<T> {
     }
 
     /// Moves the values in the first `n` places, which are all there are, to the same places of `other`, which
-    /// is empty and at least as long. One copy of memory.
+    /// is empty and at least as long.
     pub fn drain_into(&mut self, other: &mut Buf<T>, n: usize)
         requires run { IsRun self.old 0 n }
         requires rest { IsClear self.old n (length self.old) }

@@ -117,6 +117,20 @@ impl<T> Memory<T> {
         unsafe { ptr::copy_nonoverlapping(self.start.add(from), self.start.add(to), n) }
     }
 
+    // One move of memory, wherever the two runs lie.
+    pub(crate) fn move_run(&mut self, from: usize, to: usize, n: usize)
+        requires run { IsRun self.old.places from n }
+        requires room { to + n ≤ length self.old.places }
+        requires clear { IsClearBut self.old.places to (to + n) from n }
+        ensures { self.new.places ≡ shifted from to n self.old.places }
+    {
+        if from.abs_diff(to) < n {
+            self.slide(from, to, n);
+        } else {
+            self.transfer(from, to, n);
+        }
+    }
+
     // One copy of memory, where the run goes to the same places of another block.
     pub(crate) fn hand_over(&mut self, other: &mut Memory<T>, from: usize, n: usize)
         requires run { IsRun self.old.places from n }

@@ -2,6 +2,7 @@
 ghost use Rattle.std.specs.Prelude.{pos, false, ⊤};
 ghost use Rattle.cow_model.specs.Hash.{literal_hash};
 ghost use Rattle.cow_model.specs.declared.plain.Literal.TheVariants.{Int};
+ghost use Rattle.std.proofs.Common.{rules};
 
 use crate::hash;
 use crate::item::{Item, Key};
@@ -19,22 +20,15 @@ impl<Q: Stock> Item<Q> for i64 {
 
     ghost is_counted = { λ _. false };
 
-    fn copy(&self, h: &mut Holder<Q>) -> Self {
-        h.note(1);
-        *self
-    }
-
     fn twin(&self, _h: &mut Holder<Q>) -> Self {
         *self
-    }
-
-    fn note(n: u64, h: &mut Holder<Q>) {
-        h.note(n);
     }
 
     fn settle(&mut self) {}
 
     fn end(self, _h: &mut Holder<Q>) {}
+
+    ghost weighs_little = { Prim.search rules };
 }
 
 impl<Q: Stock> Key<Q> for i64 {
@@ -64,15 +58,13 @@ impl<Q: Stock> Item<Q> for () {
 
     ghost is_counted = { λ _. false };
 
-    fn copy(&self, _h: &mut Holder<Q>) -> Self {}
-
     fn twin(&self, _h: &mut Holder<Q>) -> Self {}
-
-    fn note(_n: u64, _h: &mut Holder<Q>) {}
 
     fn settle(&mut self) {}
 
     fn end(self, _h: &mut Holder<Q>) {}
+
+    ghost weighs_little = { Prim.search rules };
 }
 
 impl<Q: Stock> Key<Q> for () {

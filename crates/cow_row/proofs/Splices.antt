@@ -106,7 +106,7 @@ module _ {X : Type 0} where
   pub is_run : (cs : List (Option X)) (f n i c : ℕ) → IsPacked cs f n → i + c ≤ n → IsRun cs (f + i) c
   is_run cs f n i c p h = (omega (arith, h, p.fits), (take c (drop i (somes cs)), run-of-row cs f n i c p h))
 
-  somes-some : (ys : List X) → somes (map Some ys) ≡ ys
+  pub somes-some : (ys : List X) → somes (map Some ys) ≡ ys
   somes-some [] = refl
   somes-some (y ∷ ys) = ap (λ l. y ∷ l) (somes-some ys)
 

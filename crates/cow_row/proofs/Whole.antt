@@ -4,7 +4,7 @@ use Rattle.std.proofs.lemmas.List.{length-replicate, length-take-le, length-drop
 use Rattle.cow_buf.specs.Places.{IsRun, IsClear, blanked}
 use Rattle.cow_row.specs.Places.{somes, place, packed, gapped, IsPacked}
 use Rattle.cow_row.proofs.Packed.{is_packed, somes-packed, length-packed, front-get}
-use Rattle.cow_row.proofs.Splices.{is_run, emptied, items-of-run}
+use Rattle.cow_row.proofs.Splices.{is_run, emptied, items-of-run, somes-some}
 
 module _ {X : Type 0} where
   none-at : (m k : ℕ) → place (replicate {A = Option X} m None) k ≡ None
@@ -87,13 +87,12 @@ module _ {X : Type 0} where
       let r = rw e at (is_run cs f n (i + c) (n - i - c) p (omega arith)) in
       (omega (arith, length-blanked cs (f + i) c fits, r.0), (r.1.0, rw (drop-blanked cs (f + i) c fits) r.1.1))
 
-  somes-some : (xs : List X) → somes (map Some xs) ≡ xs
-  somes-some [] = refl
-  somes-some (x ∷ xs) = ap (λ l. x ∷ l) (somes-some xs)
+  -- what the places of a run show
+  pub shown_run : (cs : List (Option X)) (f n i c : ℕ) (xs : List X) → IsPacked cs f n → i + c ≤ n → map Some xs ≡ take c (drop (f + i) cs) → xs ≡ take c (drop i (somes cs))
+  shown_run cs f n i c xs p h e = sym (somes-some xs) ∙ ap somes e ∙ items-of-run cs f n i c p h
 
   -- what the places of all items show
   pub shown : (cs : List (Option X)) (f n : ℕ) (xs : List X) → IsPacked cs f n → map Some xs ≡ take n (drop f cs) → xs ≡ somes cs
   shown cs f n xs p e =
       let z : f + 0 ≡ f = omega arith in
-      let run : somes (take n (drop f cs)) ≡ take n (somes cs) = rw z at (items-of-run cs f n 0 n p (omega arith)) in
-      sym (somes-some xs) ∙ ap somes e ∙ run ∙ take_all n (somes cs) (omega (arith, p.count))
+      shown_run cs f n 0 n xs p (omega arith) (rw z e) ∙ take_all n (somes cs) (omega (arith, p.count))

@@ -4,6 +4,7 @@ ghost use Rattle.cow_buf.specs.Places.{IsRun, IsClear, blanked};
 ghost use Rattle.cow_model.specs.Purse.{more};
 ghost use Rattle.cow_row.specs.Places.{somes, IsPacked};
 
+use core::mem::replace_with;
 use cow_buf::Buf;
 use cow_cell::{Holder, Stock};
 use cow_item::Item;
@@ -84,11 +85,19 @@ impl<T: Drop> Row<T> {
         self.buf.at(self.front + i)
     }
 
-    /// The items, in order.
+    /// The items, in order. One step.
     pub fn as_slice(&self) -> &[T]
         ensures { result.now ≡ self.now.items }
     {
         self.buf.run(self.front, self.len)
+    }
+
+    /// The `count` items from `start` on, in order. One step.
+    pub fn run(&self, start: usize, count: usize) -> &[T]
+        requires { start + count ≤ length self.now.items }
+        ensures { result.now ≡ take count (drop start self.now.items) }
+    {
+        self.buf.run(self.front + start, count)
     }
 
     /// `x` stands last. One step.
@@ -190,7 +199,9 @@ impl<T: Drop> Row<T> {
     }
 
     /// Room for `n` items in all. Moves the items and copies none; where it takes memory, it takes it
-    /// for `n` items.
+    /// for `n` items, once.
+    #[cold]
+    #[inline(never)]
     pub fn reserve(&mut self, alloc: Global, n: usize) -> Result<(), NoMemory>
         requires { n ≤ 2 ^ 32 }
         ensures items { self.new.items ≡ self.old.items }
@@ -249,7 +260,8 @@ impl<T: Drop> Row<T> {
     }
 }
 
-/// Copies of the `count` items of `from` from `start` on stand last in `to`. Takes no memory.
+/// Copies of the `count` items of `from` from `start` on stand last in `to`. One pass that writes items and
+/// nothing else, and one count of the copies. Takes no memory.
 pub fn copy_run<T: Item<Q>, Q: Stock>(
     from: &Row<T>,
     start: usize,
@@ -272,44 +284,42 @@ pub fn copy_run<T: Item<Q>, Q: Stock>(
     ensures copied { h.new.copied ≤ h.old.copied + T.WEIGHT * count }
     ensures kept { h.old.copied ≤ h.new.copied }
 {
-    let front = to.front;
-    let len = to.len;
-    copy_places(from.as_slice(), start, count, &mut to.buf, front, len, h);
+    let (front, len) = (to.front, to.len);
+    let run = (from.run(start, count), front, len, h.split(count as u64));
+    let rest = replace_with(&mut to.buf, run, with_twins);
+    h.join(rest);
+    h.note(T::WEIGHT * count as u64);
     to.len = len + count;
-    T::note(count as u64, h);
 }
 
-/// Puts copies of the `count` items of `from` from `start` on, which nobody has counted, into the places
-/// behind the `len` items that stand behind `front` empty places.
-fn copy_places<T: Item<Q>, Q: Stock>(
-    from: &[T],
-    start: usize,
-    count: usize,
-    to: &mut Buf<T>,
-    front: usize,
-    len: usize,
-    h: &mut Holder<Q>,
-)
-    requires within { start + count ≤ length from.now }
-    requires small { length from.now ≤ 2 ^ 31 }
-    requires from_settled { All T.IsSettled from.now }
-    requires packed { IsPacked to.old front len }
-    requires to_settled { All T.IsSettled (somes to.old) }
-    requires room { front + len + count ≤ length to.old }
-    requires spare { count ≤ h.old.spare }
-    ensures packed { IsPacked to.new front (len + count) }
-    ensures long { length to.new ≡ length to.old }
-    ensures same { map T.plain (somes to.new) ≡ map T.plain (somes to.old) ++ map T.plain (take count (drop start from.now)) }
-    ensures settled { All T.IsSettled (somes to.new) }
-    ensures units { h.new.spare + count_by T.is_counted (map T.plain (take count (drop start from.now))) ≡ h.old.spare }
-    ensures copied { h.new.copied ≡ h.old.copied }
+/// Puts twins of a slice's items into the places behind the `len` items that stand behind `front` empty places,
+/// and answers the buffer and the holder. It has both by value, so that the loop keeps the buffer's pointer and
+/// the holder's numbers in registers, and writes items and nothing else.
+fn with_twins<T: Item<Q>, Q: Stock>(
+    to: Buf<T>,
+    run: (&[T], usize, usize, Holder<Q>),
+) -> (Buf<T>, Holder<Q>)
+    requires small { length run.0.now ≤ 2 ^ 31 }
+    requires from_settled { All T.IsSettled run.0.now }
+    requires packed { IsPacked to run.1 run.2 }
+    requires to_settled { All T.IsSettled (somes to) }
+    requires room { run.1 + run.2 + length run.0.now ≤ length to }
+    requires spare { length run.0.now ≤ run.3.spare }
+    ensures packed { IsPacked result.0 run.entry.1 (run.entry.2 + length run.entry.0.now) }
+    ensures long { length result.0 ≡ length to }
+    ensures same { map T.plain (somes result.0) ≡ map T.plain (somes to) ++ map T.plain run.entry.0.now }
+    ensures settled { All T.IsSettled (somes result.0) }
+    ensures units { result.1.spare + count_by T.is_counted (map T.plain run.entry.0.now) ≡ run.entry.3.spare }
+    ensures copied { result.1.copied ≡ run.entry.3.copied }
 {
+    let (from, front, len, h) = run;
+    let (mut to, mut h) = (to, h);
     let mut n = len;
-    for i in 0..count {
-        let x = item(from, start + i).twin(h);
-        to.put(front + n, x);
+    for i in 0..from.len() {
+        to.put(front + n, item(from, i).twin(&mut h));
         n += 1;
     }
+    (to, h)
 }
 
 /// Item `i` of a slice.

@@ -31,6 +31,7 @@ pub fn take_items<T: Item<Q>, Q: Stock>(items: Vec<T>, to: &mut Row<T>)
 /// Ends the handle, and its items where it was the last one.
 pub fn end_cell<T: Item<Q>, Q: Stock>(cell: Counted<Row<T>, Q>, h: &mut Holder<Q>)
     ensures moved { Moves (count_by T.is_counted (map T.plain cell.value.items)) 0 (more 1 h.old) h.new }
+    ensures exact { cell.alone ≡ true → h.new ≡ more (count_by T.is_counted (map T.plain cell.value.items)) (more 1 h.old) }
     ensures never_less { h.old.spare + 1 ≤ h.new.spare }
 {
     if let Some(mut row) = cell.end(h) {
@@ -57,7 +58,9 @@ pub fn grown(capacity: usize, wanted: usize) -> usize
 
 /// Puts a new storage in place of one that others hold too: of copies of the `count` items from
 /// `start` on, at a capacity. All its memory is taken first, then the items are copied, which can't be
-/// refused, and last the old handle is ended.
+/// refused, and last the old handle is ended. Linear in `count`.
+#[cold]
+#[inline(never)]
 pub fn renew<T: Item<Q>, Q: Stock>(
     cell: &mut Counted<Row<T>, Q>,
     start: usize,
@@ -93,7 +96,7 @@ pub fn renew<T: Item<Q>, Q: Stock>(
 
 /// Makes the handle alone, with room for `extra` more items behind the `count` from `start` on, and
 /// answers where these begin then. An unshared storage stays, with all its items; one that others
-/// hold too is renewed from the run alone.
+/// hold too is renewed from the run alone. One step where there is nothing to do: one look at the handle.
 #[inline]
 pub fn prepare_run<T: Item<Q>, Q: Stock>(
     cell: &mut Counted<Row<T>, Q>,
@@ -115,9 +118,10 @@ pub fn prepare_run<T: Item<Q>, Q: Stock>(
     ensures front { cell.new.value.front ≤ cell.old.value.front }
     ensures alone { OnOk result (cell.new.alone ≡ true) }
     ensures room { IfOk result (λ s. s + count + extra ≤ cell.new.value.capacity) }
-    ensures doubled { cell.old.value.capacity ≡ start + count → 0 < extra → OnOk result (2 * count ≤ cell.new.value.capacity) }
+    ensures doubled { cell.old.value.capacity < start + count + extra → IfOk result (λ s. (4 ≤ cell.new.value.capacity) × (s + 2 * count ≤ cell.new.value.capacity)) }
     ensures in_place { cell.old.alone ≡ true → start + count + extra ≤ cell.old.value.capacity → IsOk result × (cell.new ≡ cell.old) }
     ensures still { cell.old.alone ≡ true → IfOk result (λ s. s ≡ start) }
+    ensures free { cell.old.alone ≡ true → h.new ≡ h.old }
     ensures kept_or_renewed { IfOk result (λ s. (h.new ≡ h.old) ⊎ (length cell.new.value.items ≡ s + count)) }
     ensures refused { OnErr result ((cell.new.value ≡ cell.old.value) × (h.new ≡ h.old)) }
     ensures kept { OnErr result (cell.old.alone ≡ true → cell.new.alone ≡ true) }
@@ -128,7 +132,13 @@ pub fn prepare_run<T: Item<Q>, Q: Stock>(
     if has_room(cell, start + count + extra, h) {
         return Ok(start);
     }
-    make_room(cell, start, count, alloc, extra, h)
+    let capacity = grown(cell.get().capacity(), start + count + extra);
+    if let Some(row) = cell.sole(h) {
+        row.reserve(alloc, capacity)?;
+        return Ok(start);
+    }
+    renew(cell, start, count, alloc, grown(count, count + extra), h)?;
+    Ok(0)
 }
 
 /// Whether the handle is alone with room for `wanted` items. It is known to be alone then.
@@ -150,48 +160,6 @@ fn has_room<T: Drop, Q: Stock>(
     }
 }
 
-/// The same where the handle may be shared or without room.
-#[cold]
-#[inline(never)]
-fn make_room<T: Item<Q>, Q: Stock>(
-    cell: &mut Counted<Row<T>, Q>,
-    start: usize,
-    count: usize,
-    alloc: Global,
-    extra: usize,
-    h: &mut Holder<Q>,
-) -> Result<usize, NoMemory>
-    requires sound { IsSound T.IsSettled cell.old.value }
-    requires within { start + count ≤ length cell.old.value.items }
-    requires growth { start + count + extra ≤ 2 ^ 31 }
-    requires spare { count + 1 ≤ h.old.spare }
-    ensures same { IfOk result (λ s. map T.plain (take count (drop s cell.new.value.items)) ≡ map T.plain (take count (drop start cell.old.value.items))) }
-    ensures place { IfOk result (λ s. (s ≤ start) × (s + count ≤ length cell.new.value.items)) }
-    ensures fewer { length cell.new.value.items ≤ length cell.old.value.items }
-    ensures units { count_by T.is_counted (map T.plain cell.new.value.items) ≤ count_by T.is_counted (map T.plain cell.old.value.items) }
-    ensures sound { IsSound T.IsSettled cell.new.value }
-    ensures front { cell.new.value.front ≤ cell.old.value.front }
-    ensures alone { OnOk result (cell.new.alone ≡ true) }
-    ensures room { IfOk result (λ s. s + count + extra ≤ cell.new.value.capacity) }
-    ensures doubled { cell.old.value.capacity ≡ start + count → 0 < extra → OnOk result (2 * count ≤ cell.new.value.capacity) }
-    ensures in_place { cell.old.alone ≡ true → start + count + extra ≤ cell.old.value.capacity → IsOk result × (cell.new ≡ cell.old) }
-    ensures still { cell.old.alone ≡ true → IfOk result (λ s. s ≡ start) }
-    ensures kept_or_renewed { IfOk result (λ s. (h.new ≡ h.old) ⊎ (length cell.new.value.items ≡ s + count)) }
-    ensures refused { OnErr result ((cell.new.value ≡ cell.old.value) × (h.new ≡ h.old)) }
-    ensures kept { OnErr result (cell.old.alone ≡ true → cell.new.alone ≡ true) }
-    ensures falls { h.old.spare ≤ h.new.spare + count }
-    ensures no_gain { h.new.spare + count_by T.is_counted (map T.plain cell.new.value.items) ≤ h.old.spare + count_by T.is_counted (map T.plain cell.old.value.items) }
-    ensures moved { Moves (count_by T.is_counted (map T.plain cell.old.value.items)) (copies cell.old.alone (T.WEIGHT * count)) h.old h.new }
-{
-    let capacity = grown(cell.get().capacity(), start + count + extra);
-    if let Some(row) = cell.sole(h) {
-        row.reserve(alloc, capacity)?;
-        return Ok(start);
-    }
-    renew(cell, start, count, alloc, grown(count, count + extra), h)?;
-    Ok(0)
-}
-
 /// Makes the handle alone, with room for `extra` more items.
 #[inline]
 pub fn prepare<T: Item<Q>, Q: Stock>(
@@ -209,7 +177,8 @@ pub fn prepare<T: Item<Q>, Q: Stock>(
     ensures front { cell.new.value.front ≤ cell.old.value.front }
     ensures alone { OnOk result (cell.new.alone ≡ true) }
     ensures room { OnOk result (length cell.old.value.items + extra ≤ cell.new.value.capacity) }
-    ensures doubled { cell.old.value.capacity ≡ length cell.old.value.items → 0 < extra → OnOk result (2 * length cell.old.value.items ≤ cell.new.value.capacity) }
+    ensures doubled { cell.old.value.capacity < length cell.old.value.items + extra → OnOk result ((4 ≤ cell.new.value.capacity) × (2 * length cell.old.value.items ≤ cell.new.value.capacity)) }
+    ensures free { cell.old.alone ≡ true → h.new ≡ h.old }
     ensures in_place { cell.old.alone ≡ true → length cell.old.value.items + extra ≤ cell.old.value.capacity → IsOk result × (cell.new ≡ cell.old) }
     ensures refused { OnErr result ((cell.new.value ≡ cell.old.value) × (h.new ≡ h.old)) }
     ensures kept { OnErr result (cell.old.alone ≡ true → cell.new.alone ≡ true) }
@@ -262,6 +231,7 @@ pub fn clear<T: Item<Q>, Q: Stock>(
     ensures empty { OnOk result ((cell.new.value.items ≡ []) × (cell.new.alone ≡ true)) }
     ensures front { cell.new.value.front ≤ cell.old.value.front }
     ensures in_place { cell.old.alone ≡ true → IsOk result × (cell.new.value.capacity ≡ cell.old.value.capacity) }
+    ensures exact { cell.old.alone ≡ true → h.new ≡ more (count_by T.is_counted (map T.plain cell.old.value.items)) h.old }
     ensures refused { OnErr result ((cell.new ≡ cell.old) × (h.new ≡ h.old)) }
     ensures moved { Moves (count_by T.is_counted (map T.plain cell.old.value.items)) 0 h.old h.new }
 {
