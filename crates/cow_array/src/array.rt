@@ -4,6 +4,7 @@ ghost use Rattle.cow_model.specs.Purse.{Moves, less, more, unit_if};
 ghost use Rattle.cow_row.specs.RowView.{IsSound};
 ghost use Rattle.cow_model.specs.Lists.{Pays};
 ghost use Rattle.cow_model.specs.Flat.{Becomes, Stays, HasRoom, need, copies, settled};
+ghost use Rattle.cow_array.specs.Growth.{HasDoubled};
 
 use crate::slice::ArraySlice;
 use cow_cell::{Counted, Holder, Stock};
@@ -73,12 +74,27 @@ impl<T: Item<Q>, Q: Stock> Array<T, Q> {
         Ok(Array { cell, alloc })
     }
 
-    /// How many elements there are.
+    /// How many elements there are. One step.
     pub fn count(&self) -> usize
         ensures value { result ≡ length self.now.value }
         ensures small { result < 2 ^ 31 }
     {
         self.cell.get().len()
+    }
+
+    /// Whether there is no element. One step.
+    pub fn is_empty(&self) -> bool
+        ensures { IsTrue result ↔ (self.now.value ≡ []) }
+    {
+        self.cell.get().is_empty()
+    }
+
+    /// The elements, in order, for reading: whatever std does with a slice can be done with them. One step.
+    pub fn as_slice(&self) -> &[T]
+        ensures value { map T.plain result.now ≡ self.now.value }
+        ensures settled { All T.IsSettled result.now }
+    {
+        self.cell.get().as_slice()
     }
 
     /// Element `i`; `None` exactly where there is none. One step.
@@ -130,6 +146,7 @@ impl<T: Item<Q>, Q: Stock> Array<T, Q> {
     /// The handle is given back; the last one of a storage ends its items.
     pub fn end(self, h: &mut Holder<Q>)
         ensures moved { Moves (count_by T.is_counted self.value) 0 (more 1 h.old) h.new }
+        ensures exact { self.alone ≡ true → h.new ≡ more (count_by T.is_counted self.value) (more 1 h.old) }
         ensures never_less { h.old.spare + 1 ≤ h.new.spare }
     {
         let Array { cell, alloc: _ } = self;
@@ -142,7 +159,7 @@ impl<T: Item<Q>, Q: Stock> Array<T, Q> {
         requires spare { need (length self.old.value) ≤ h.old.spare }
         ensures ok { OnOk result (Becomes (self.old.value ++ T.plain x ∷ []) self.new) }
         ensures within { HasRoom 1 self.old → IsOk result × (self.new.room + 1 ≡ self.old.room) }
-        ensures doubled { self.old.room ≡ 0 → OnOk result (length self.old.value ≤ self.new.room + 1) }
+        ensures doubled { self.old.room ≡ 0 → OnOk result (HasDoubled (length self.old.value) 1 self.new) }
         ensures refused { IfErr result (λ e. Stays self.old self.new × (h.new ≡ h.old) × (e.1 ≡ x)) }
         ensures paid { Pays T.is_counted T.WEIGHT self.old h.old h.new }
     {
@@ -183,7 +200,7 @@ impl<T: Item<Q>, Q: Stock> Array<T, Q> {
         requires spare { need (length self.old.value) ≤ h.old.spare }
         ensures ok { OnOk result (Becomes (insert self.old.value i (T.plain x)) self.new) }
         ensures within { HasRoom 1 self.old → IsOk result × (self.new.room + 1 ≡ self.old.room) }
-        ensures doubled { self.old.room ≡ 0 → OnOk result (length self.old.value ≤ self.new.room + 1) }
+        ensures doubled { self.old.room ≡ 0 → OnOk result (HasDoubled (length self.old.value) 1 self.new) }
         ensures refused { IfErr result (λ e. Stays self.old self.new × (h.new ≡ h.old) × (e.1 ≡ x)) }
         ensures paid { Pays T.is_counted T.WEIGHT self.old h.old h.new }
     {
@@ -274,10 +291,11 @@ impl<T: Item<Q>, Q: Stock> Array<T, Q> {
         requires order { i ≤ j }
         requires within { j ≤ length self.old.value }
         requires growth { length self.old.value + vec_len items < 2 ^ 31 + (j - i) }
-        requires spare { need (length self.old.value + vec_len items) ≤ h.old.spare }
+        requires spare { need (length self.old.value) ≤ h.old.spare }
         ensures ok { OnOk result (Becomes (splice self.old.value i j (map T.plain items.items)) self.new) }
         ensures within { HasRoom (vec_len items - (j - i)) self.old → IsOk result × (self.new.room + vec_len items ≡ self.old.room + (j - i)) }
         ensures refused { IfErr result (λ e. Stays self.old self.new × (h.new ≡ h.old) × (e.1.items ≡ items.items)) }
+        ensures exact { self.old.alone ≡ true → OnOk result (h.new ≡ more (count_by T.is_counted (slice_range self.old.value i j)) h.old) }
         ensures paid { Pays T.is_counted T.WEIGHT self.old h.old h.new }
     {
         let extra = items.len().saturating_sub(j - i);
@@ -295,6 +313,7 @@ impl<T: Item<Q>, Q: Stock> Array<T, Q> {
         requires spare { need (length self.old.value + length other.now.value) ≤ h.old.spare }
         ensures ok { OnOk result (Becomes (self.old.value ++ other.now.value) self.new) }
         ensures within { HasRoom (length other.now.value) self.old → IsOk result × (self.new.room + length other.now.value ≡ self.old.room) }
+        ensures doubled { self.old.room < length other.now.value → OnOk result (HasDoubled (length self.old.value) (length other.now.value) self.new) }
         ensures refused { OnErr result (Stays self.old self.new × (h.new ≡ h.old)) }
         ensures paid { Moves (count_by T.is_counted (self.old.value ++ other.now.value)) (copies self.old.alone (T.WEIGHT * length self.old.value) + T.WEIGHT * length other.now.value) h.old h.new }
     {
@@ -324,6 +343,7 @@ impl<T: Item<Q>, Q: Stock> Array<T, Q> {
         requires spare { need (length self.old.value) ≤ h.old.spare }
         ensures ok { OnOk result (Becomes [] self.new) }
         ensures within { self.old.alone ≡ true → IsOk result × (self.new.room ≡ self.old.room + length self.old.value) }
+        ensures exact { self.old.alone ≡ true → h.new ≡ more (count_by T.is_counted self.old.value) h.old }
         ensures refused { OnErr result (Stays self.old self.new × (h.new ≡ h.old)) }
         ensures paid { Moves (count_by T.is_counted self.old.value) 0 h.old h.new }
     {

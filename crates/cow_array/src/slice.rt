@@ -1,6 +1,7 @@
 ghost use Rattle.std.specs.Prelude.{◌≡◌, ℕ, ◌+◌, ◌-◌, ◌*◌, ◌<◌, ◌≤◌, ◌^◌, List, [], ◌∷◌, ◌++◌, length, map, take, drop, count_by, slice_get, slice_set, IfOk, IfErr, OnOk, OnErr, IsOk, IsSome, IsNone, IfSome, IfNone, IsTrue, ◌↔◌, All, option_map, true, false, if◌then◌else◌};
 ghost use Rattle.cow_model.specs.Purse.{Moves, less, more, unit_if};
 ghost use Rattle.cow_model.specs.Flat.{need, copies, settled, HasRoom, Stays, Becomes};
+ghost use Rattle.cow_array.specs.Growth.{HasDoubled};
 
 use crate::array::Array;
 use cow_cell::{Counted, Holder, Stock};
@@ -44,6 +45,23 @@ impl<T: Item<Q>, Q: Stock> ArraySlice<T, Q> {
         ensures small { result < 2 ^ 31 }
     {
         self.count
+    }
+
+    /// Whether there is no element. One step.
+    #[tactic(auto, using(cow_row::proofs::Runs::row_steps))]
+    pub fn is_empty(&self) -> bool
+        ensures { IsTrue result ↔ (self.now.value.items ≡ []) }
+    {
+        self.count == 0
+    }
+
+    /// The elements, in order, for reading. One step.
+    #[tactic(auto, using(cow_row::proofs::Runs::row_steps))]
+    pub fn as_slice(&self) -> &[T]
+        ensures value { map T.plain result.now ≡ self.now.value.items }
+        ensures settled { All T.IsSettled result.now }
+    {
+        self.cell.get().run(self.from, self.count)
     }
 
     /// The index of the first element.
@@ -118,6 +136,7 @@ impl<T: Item<Q>, Q: Stock> ArraySlice<T, Q> {
     /// The handle is given back; the last one of a storage ends its items, shown or not.
     pub fn end(self, h: &mut Holder<Q>)
         ensures moved { Moves self.value.units 0 (more 1 h.old) h.new }
+        ensures exact { self.alone ≡ true → h.new ≡ more self.value.units (more 1 h.old) }
         ensures never_less { h.old.spare + 1 ≤ h.new.spare }
     {
         let ArraySlice { cell, .. } = self;
@@ -163,6 +182,7 @@ impl<T: Item<Q>, Q: Stock> ArraySlice<T, Q> {
         ensures units { OnOk result (self.new.value.units ≤ self.old.value.units + unit_if (T.is_counted (T.plain x))) }
         ensures alone { OnOk result (self.new.alone ≡ true) }
         ensures within { HasRoom 1 self.old → IsOk result × (self.new.room + 1 ≡ self.old.room) }
+        ensures doubled { self.old.room ≡ 0 → OnOk result (length self.old.value.items ≤ self.new.room + 1) }
         ensures refused { IfErr result (λ e. Stays self.old self.new × (h.new ≡ h.old) × (e.1 ≡ x)) }
         ensures falls { h.old.spare ≤ h.new.spare + length self.old.value.items }
         ensures moved { Moves self.old.value.units (copies self.old.alone (T.WEIGHT * length self.old.value.items)) h.old h.new }
@@ -186,6 +206,7 @@ impl<T: Item<Q>, Q: Stock> ArraySlice<T, Q> {
         ensures ok { IfOk result (λ a. Becomes self.value.items a) }
         ensures within { self.alone ≡ true → IsOk result }
         ensures refused { IfErr result (λ e. (e.1 ≡ self) × (h.new ≡ h.old)) }
+        ensures exact { self.alone ≡ true → h.new.spare + count_by T.is_counted self.value.items ≡ h.old.spare + self.value.units }
         ensures falls { h.old.spare ≤ h.new.spare + length self.value.items }
         ensures moved { Moves self.value.units (copies self.alone (T.WEIGHT * length self.value.items)) h.old h.new }
     {

@@ -1,4 +1,4 @@
-ghost use Rattle.std.specs.Prelude.{◌≡◌, ◌+◌, ◌-◌, ◌*◌, ◌<◌, ◌≤◌, ◌^◌, [], ◌∷◌, ◌++◌, length, map, count_by, All, IsPermutation, slice_get, slice_set, take, drop, insert, remove, swap, reverse, IfOk, IfNone, IfSome, OnOk, OnErr, IsOk, Some, None, max};
+ghost use Rattle.std.specs.Prelude.{◌≡◌, ◌+◌, ◌-◌, ◌*◌, ◌<◌, ◌≤◌, ◌^◌, [], ◌∷◌, ◌++◌, length, map, count_by, All, IsPermutation, slice_get, slice_set, take, drop, insert, remove, swap, reverse, IfOk, IfNone, IfSome, OnOk, OnErr, IsOk, IsTrue, ◌↔◌, Some, None, max};
 ghost use Rattle.std.specs.List.{splice};
 ghost use Rattle.cow_buf.specs.Places.{IsRun, IsClear, blanked};
 ghost use Rattle.cow_model.specs.Purse.{more};
@@ -67,6 +67,13 @@ impl<T: Drop> Row<T> {
         ensures fits { length self.now.items ≤ self.now.capacity }
     {
         self.len
+    }
+
+    /// Whether there is no item.
+    pub fn is_empty(&self) -> bool
+        ensures { IsTrue result ↔ (self.now.items ≡ []) }
+    {
+        self.len == 0
     }
 
     /// How many items fit from the first one's place on.
