@@ -1,8 +1,9 @@
-//! What the steps of an array cost. `bench/arrays.sh` times this program beside `bench/arc_vec.rs`,
-//! which does the same over Rust's `Arc<Vec<i64>>`; no gate times it.
+//! What the steps of an array cost. `bench/arrays.sh` counts this program's instructions and times it beside
+//! `bench/arc_vec.rs`, which does the same over Rust's `Arc<Vec<_>>`; no gate does.
 //!
-//! `bench_array WORKLOAD SIZE ROUNDS` runs one of `append`, `get`, `set` and `shared` over arrays of SIZE
-//! numbers and prints a number that shows what was done. With no words it runs each on a small array.
+//! `bench_array WORKLOAD SIZE ROUNDS` runs a workload over arrays of SIZE elements and prints a number that shows
+//! what was done: `append`, `get`, `set` and `copy` over integers, `append-atoms` and `copy-atoms` over atoms.
+//! With no words it runs each on a small array.
 #![tactic(auto)]
 
 ghost use Rattle.std.specs.Prelude.{◌≤◌, length, IsTrue};
@@ -17,35 +18,55 @@ use std::alloc::Global;
 use std::io;
 use std::marker::Brand;
 
-/// The most numbers of an array here.
+/// The most elements of an array here.
 const MOST: usize = 1_000_000;
 
+/// The workloads.
+const WORKLOADS: [&str; 6] = ["append", "get", "set", "copy", "append-atoms", "copy-atoms"];
+
+/// An element that is made of a number.
+trait Numbered<Q: Stock>: Item<Q> {
+    fn of(x: i64) -> Self;
+}
+
+impl<Q: Stock> Numbered<Q> for i64 {
+    fn of(x: i64) -> i64 {
+        x
+    }
+}
+
+impl<Q: Stock> Numbered<Q> for Atom<Q> {
+    fn of(x: i64) -> Atom<Q> {
+        Atom::Int(x)
+    }
+}
+
 /// Whether the holder can pay for a change of the array.
-fn can_pay<Q: Stock>(a: &Array<i64, Q>, h: &Holder<Q>) -> bool
+fn can_pay<T: Item<Q>, Q: Stock>(a: &Array<T, Q>, h: &Holder<Q>) -> bool
     ensures { IsTrue result → need (length a.now.value) ≤ h.now.spare }
 {
     16 * (a.count() as u64) + 512 <= h.spare()
 }
 
 /// An array of the numbers below `size`, appended one by one.
-fn filled<Q: Stock>(
+fn filled<T: Numbered<Q>, Q: Stock>(
     alloc: Global,
     size: usize,
     h: &mut Holder<Q>,
-) -> Result<Array<i64, Q>, NoMemory>
+) -> Result<Array<T, Q>, NoMemory>
     requires { 1 ≤ h.old.spare }
 {
-    let mut a = Array::<i64, Q>::new(alloc, h)?;
+    let mut a = Array::<T, Q>::new(alloc, h)?;
     for i in 0..size {
         if a.count() < MOST && can_pay(&a, h) {
-            a.append((i % MOST) as i64, h).map_err(|e| e.0)?;
+            a.append(T::of((i % MOST) as i64), h).map_err(|e| e.0)?;
         }
     }
     Ok(a)
 }
 
-/// Fills an array in each round. Answers how many numbers were appended.
-fn append<Q: Stock>(
+/// Fills an array in each round, and ends it. Answers how many elements were appended.
+fn append<T: Numbered<Q>, Q: Stock>(
     alloc: Global,
     opening: Opening,
     size: usize,
@@ -57,7 +78,7 @@ fn append<Q: Stock>(
     let mut sum = 0i64;
     for _ in 0..rounds {
         if 0 < h.spare() {
-            let a = filled(alloc, size, &mut h)?;
+            let a = filled::<T, Q>(alloc, size, &mut h)?;
             sum = sum.wrapping_add(a.count() as i64);
             a.end(&mut h);
         }
@@ -70,7 +91,7 @@ fn get<Q: Stock>(alloc: Global, opening: Opening, size: usize, rounds: u64) -> R
     requires { Opens Q.Stock opening }
 {
     let mut h = Holder::<Q>::fresh(opening);
-    let a = filled(alloc, size, &mut h)?;
+    let a = filled::<i64, Q>(alloc, size, &mut h)?;
     let mut sum = 0i64;
     for _ in 0..rounds {
         for i in 0..a.count() {
@@ -79,6 +100,7 @@ fn get<Q: Stock>(alloc: Global, opening: Opening, size: usize, rounds: u64) -> R
             }
         }
     }
+    a.end(&mut h);
     Ok(sum)
 }
 
@@ -87,7 +109,7 @@ fn set<Q: Stock>(alloc: Global, opening: Opening, size: usize, rounds: u64) -> R
     requires { Opens Q.Stock opening }
 {
     let mut h = Holder::<Q>::fresh(opening);
-    let mut a = filled(alloc, size, &mut h)?;
+    let mut a = filled::<i64, Q>(alloc, size, &mut h)?;
     let mut sum = 0i64;
     for _ in 0..rounds {
         for i in 0..size {
@@ -97,12 +119,13 @@ fn set<Q: Stock>(alloc: Global, opening: Opening, size: usize, rounds: u64) -> R
             }
         }
     }
+    a.end(&mut h);
     Ok(sum)
 }
 
-/// Sets the first number of a copy in each round, so that all are copied. Answers the sum of what
-/// stood there.
-fn shared<Q: Stock>(
+/// Sets the first element of a copy in each round, so that all are copied, and ends the copy. Answers how many
+/// elements the copies had.
+fn copy<T: Numbered<Q>, Q: Stock>(
     alloc: Global,
     opening: Opening,
     size: usize,
@@ -111,65 +134,16 @@ fn shared<Q: Stock>(
     requires { Opens Q.Stock opening }
 {
     let mut h = Holder::<Q>::fresh(opening);
-    let mut a = filled(alloc, size, &mut h)?;
+    let mut a = filled::<T, Q>(alloc, size, &mut h)?;
     let mut sum = 0i64;
     for _ in 0..rounds {
         if 0 < h.spare() {
             let mut b = a.copy(&mut h);
             if 0 < b.count() && can_pay(&b, &h) {
-                let old = b.set(0, 7, &mut h).map_err(|e| e.0)?;
-                sum = sum.wrapping_add(old).wrapping_add(1);
-            }
-            b.end(&mut h);
-        }
-    }
-    Ok(sum)
-}
-
-/// Whether the holder can pay for a change of the array.
-fn can_pay_atoms<Q: Stock>(a: &Array<Atom<Q>, Q>, h: &Holder<Q>) -> bool
-    ensures { IsTrue result → need (length a.now.value) ≤ h.now.spare }
-{
-    16 * (a.count() as u64) + 512 <= h.spare()
-}
-
-/// An array of the numbers below `size` as atoms, appended one by one.
-fn filled_atoms<Q: Stock>(
-    alloc: Global,
-    size: usize,
-    h: &mut Holder<Q>,
-) -> Result<Array<Atom<Q>, Q>, NoMemory>
-    requires { 1 ≤ h.old.spare }
-{
-    let mut a = Array::<Atom<Q>, Q>::new(alloc, h)?;
-    for i in 0..size {
-        if a.count() < MOST && can_pay_atoms(&a, h) {
-            a.append(Atom::Int((i % MOST) as i64), h).map_err(|e| e.0)?;
-        }
-    }
-    Ok(a)
-}
-
-/// Sets the first atom of a copy in each round, so that all are copied, and ends the copy.
-fn atoms<Q: Stock>(
-    alloc: Global,
-    opening: Opening,
-    size: usize,
-    rounds: u64,
-) -> Result<i64, NoMemory>
-    requires { Opens Q.Stock opening }
-{
-    let mut h = Holder::<Q>::fresh(opening);
-    let mut a = filled_atoms(alloc, size, &mut h)?;
-    let mut sum = 0i64;
-    for _ in 0..rounds {
-        if 0 < h.spare() {
-            let mut b = a.copy(&mut h);
-            if 0 < b.count() && can_pay_atoms(&b, &h) {
-                let old = b.set(0, Atom::Int(7), &mut h).map_err(|e| e.0)?;
+                let old = b.set(0, T::of(7), &mut h).map_err(|e| e.0)?;
                 old.end(&mut h);
-                sum = sum.wrapping_add(1);
             }
+            sum = sum.wrapping_add(b.count() as i64);
             b.end(&mut h);
         }
     }
@@ -177,25 +151,25 @@ fn atoms<Q: Stock>(
     Ok(sum)
 }
 
-/// Fills an array of atoms in each round, and ends it.
-fn appends<Q: Stock>(
+/// Runs a workload on a stock of its own.
+fn run<Q: Stock>(
     alloc: Global,
     opening: Opening,
+    workload: &str,
     size: usize,
     rounds: u64,
-) -> Result<i64, NoMemory>
+) -> Option<Result<i64, NoMemory>>
     requires { Opens Q.Stock opening }
 {
-    let mut h = Holder::<Q>::fresh(opening);
-    let mut sum = 0i64;
-    for _ in 0..rounds {
-        if 0 < h.spare() {
-            let a = filled_atoms(alloc, size, &mut h)?;
-            sum = sum.wrapping_add(a.count() as i64);
-            a.end(&mut h);
-        }
+    match workload {
+        "append" => Some(append::<i64, Q>(alloc, opening, size, rounds)),
+        "get" => Some(get::<Q>(alloc, opening, size, rounds)),
+        "set" => Some(set::<Q>(alloc, opening, size, rounds)),
+        "copy" => Some(copy::<i64, Q>(alloc, opening, size, rounds)),
+        "append-atoms" => Some(append::<Atom<Q>, Q>(alloc, opening, size, rounds)),
+        "copy-atoms" => Some(copy::<Atom<Q>, Q>(alloc, opening, size, rounds)),
+        _ => None,
     }
-    Ok(sum)
 }
 
 /// Runs one workload and prints what it answers.
@@ -205,18 +179,10 @@ fn report<R: Alloc<A = Global> + Print>(
     size: usize,
     rounds: u64,
 ) -> io::Result<()> {
-    let done = match workload {
-        "append" => append::<Brand>(rt.alloc(), Opening::new(), size, rounds),
-        "get" => get::<Brand>(rt.alloc(), Opening::new(), size, rounds),
-        "set" => set::<Brand>(rt.alloc(), Opening::new(), size, rounds),
-        "shared" => shared::<Brand>(rt.alloc(), Opening::new(), size, rounds),
-        "atoms" => atoms::<Brand>(rt.alloc(), Opening::new(), size, rounds),
-        "appends" => appends::<Brand>(rt.alloc(), Opening::new(), size, rounds),
-        _ => return println!(rt; "append, get, set or shared"),
-    };
-    match done {
-        Ok(n) => println!(rt; "{workload} {n}"),
-        Err(NoMemory) => println!(rt; "{workload}: no memory"),
+    match run::<Brand>(rt.alloc(), Opening::new(), workload, size, rounds) {
+        Some(Ok(n)) => println!(rt; "{workload} {n}"),
+        Some(Err(NoMemory)) => println!(rt; "{workload}: no memory"),
+        None => println!(rt; "bench_array WORKLOAD SIZE ROUNDS"),
     }
 }
 
@@ -230,7 +196,7 @@ fn main(rt: HostRuntime) -> io::Result<()> {
             rounds.as_str().parse::<u64>().unwrap_or(0),
         );
     }
-    for workload in ["append", "get", "set", "shared"] {
+    for workload in WORKLOADS {
         report(&rt, workload, 10, 3)?;
     }
     Ok(())

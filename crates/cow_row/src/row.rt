@@ -1,7 +1,7 @@
 ghost use Rattle.std.specs.Prelude.{◌≡◌, ◌+◌, ◌-◌, ◌*◌, ◌<◌, ◌≤◌, ◌^◌, [], ◌∷◌, ◌++◌, length, map, count_by, All, IsPermutation, slice_get, slice_set, take, drop, insert, remove, swap, reverse, IfOk, IfNone, IfSome, OnOk, OnErr, IsOk, IsTrue, ◌↔◌, Some, None, max};
 ghost use Rattle.std.specs.List.{splice};
 ghost use Rattle.cow_buf.specs.Places.{IsRun, IsClear, blanked};
-ghost use Rattle.cow_model.specs.Purse.{more};
+ghost use Rattle.cow_model.specs.Purse.{more, noted};
 ghost use Rattle.cow_row.specs.Places.{somes, IsPacked};
 
 use core::mem::replace_with;
@@ -288,8 +288,7 @@ pub fn copy_run<T: Item<Q>, Q: Stock>(
     ensures capacity { to.new.capacity ≡ to.old.capacity }
     ensures front { to.new.front ≡ to.old.front }
     ensures units { h.new.spare + count_by T.is_counted (map T.plain (take count (drop start from.now.items))) ≡ h.old.spare }
-    ensures copied { h.new.copied ≤ h.old.copied + T.WEIGHT * count }
-    ensures kept { h.old.copied ≤ h.new.copied }
+    ensures copied { h.new.copied ≡ (noted (T.WEIGHT * count) h.old).copied }
 {
     let (front, len) = (to.front, to.len);
     let run = (from.run(start, count), front, len, h.split(count as u64));

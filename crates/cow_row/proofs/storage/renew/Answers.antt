@@ -13,7 +13,7 @@ returns-clause-moved g c =
       falls = grind (arith, fewer, ended, units, made, c.end_cell.ensures.never_less);
       rises = grind (arith, fewer, ended, units, made);
       copied = grind (arith, ended, made, c.copy_run.ensures.copied);
-      kept = grind (arith, ended, made, c.copy_run.ensures.kept);
+      kept = grind (arith, ended, made, c.copy_run.ensures.copied);
     }
 
 pub returns-clause-no_gain : goal.returns-clause-no_gain
