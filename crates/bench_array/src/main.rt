@@ -6,9 +6,9 @@
 //! With no words it runs each on a small array.
 #![tactic(auto)]
 
-ghost use Rattle.std.specs.Prelude.{◌≤◌, length, IsTrue};
+ghost use Rattle.std.specs.Prelude.{◌≡◌, ◌≤◌, ◌^◌, length, true, IfOk, OnOk};
 ghost use Rattle.cow_cell.specs.Opens.{Opens};
-ghost use Rattle.cow_model.specs.Flat.{need};
+ghost use Rattle.cow_model.specs.Purse.{less};
 
 use cow_array::Array;
 use cow_cell::{Holder, Opening, Stock};
@@ -19,10 +19,31 @@ use std::io;
 use std::marker::Brand;
 
 /// The most elements of an array here.
-const MOST: usize = 1_000_000;
+const MOST: usize = 0x10_0000;
 
-/// The workloads.
-const WORKLOADS: [&str; 6] = ["append", "get", "set", "copy", "append-atoms", "copy-atoms"];
+/// Units enough for any change here.
+const ENOUGH: u64 = 0x100_0000_0000;
+
+/// What can be run.
+#[derive(Clone, Copy)]
+enum Workload {
+    Append,
+    Get,
+    Set,
+    Copy,
+    AppendAtoms,
+    CopyAtoms,
+}
+
+/// The workloads, each with its word.
+const WORKLOADS: [(&str, Workload); 6] = [
+    ("append", Workload::Append),
+    ("get", Workload::Get),
+    ("set", Workload::Set),
+    ("copy", Workload::Copy),
+    ("append-atoms", Workload::AppendAtoms),
+    ("copy-atoms", Workload::CopyAtoms),
+];
 
 /// An element that is made of a number.
 trait Numbered<Q: Stock>: Item<Q> {
@@ -41,26 +62,20 @@ impl<Q: Stock> Numbered<Q> for Atom<Q> {
     }
 }
 
-/// Whether the holder can pay for a change of the array.
-fn can_pay<T: Item<Q>, Q: Stock>(a: &Array<T, Q>, h: &Holder<Q>) -> bool
-    ensures { IsTrue result → need (length a.now.value) ≤ h.now.spare }
-{
-    16 * (a.count() as u64) + 512 <= h.spare()
-}
-
 /// An array of the numbers below `size`, appended one by one.
 fn filled<T: Numbered<Q>, Q: Stock>(
     alloc: Global,
     size: usize,
     h: &mut Holder<Q>,
 ) -> Result<Array<T, Q>, NoMemory>
-    requires { 1 ≤ h.old.spare }
+    requires size { size ≤ 2 ^ 20 }
+    requires spare { 2 ^ 40 ≤ h.old.spare }
+    ensures filled { IfOk result (λ a. (a.alone ≡ true) × (length a.value ≡ size)) }
+    ensures paid { OnOk result (h.new ≡ less 1 h.old) }
 {
     let mut a = Array::<T, Q>::new(alloc, h)?;
     for i in 0..size {
-        if a.count() < MOST && can_pay(&a, h) {
-            a.append(T::of((i % MOST) as i64), h).map_err(|e| e.0)?;
-        }
+        a.append(T::of(i as i64), h).map_err(|e| e.0)?;
     }
     Ok(a)
 }
@@ -72,12 +87,13 @@ fn append<T: Numbered<Q>, Q: Stock>(
     size: usize,
     rounds: u64,
 ) -> Result<i64, NoMemory>
-    requires { Opens Q.Stock opening }
+    requires opens { Opens Q.Stock opening }
+    requires size { size ≤ 2 ^ 20 }
 {
     let mut h = Holder::<Q>::fresh(opening);
     let mut sum = 0i64;
     for _ in 0..rounds {
-        if 0 < h.spare() {
+        if ENOUGH <= h.spare() {
             let a = filled::<T, Q>(alloc, size, &mut h)?;
             sum = sum.wrapping_add(a.count() as i64);
             a.end(&mut h);
@@ -88,7 +104,8 @@ fn append<T: Numbered<Q>, Q: Stock>(
 
 /// Reads each number in each round. Answers their sum.
 fn get<Q: Stock>(alloc: Global, opening: Opening, size: usize, rounds: u64) -> Result<i64, NoMemory>
-    requires { Opens Q.Stock opening }
+    requires opens { Opens Q.Stock opening }
+    requires size { size ≤ 2 ^ 20 }
 {
     let mut h = Holder::<Q>::fresh(opening);
     let a = filled::<i64, Q>(alloc, size, &mut h)?;
@@ -106,17 +123,16 @@ fn get<Q: Stock>(alloc: Global, opening: Opening, size: usize, rounds: u64) -> R
 
 /// Sets each number of an unshared array in each round. Answers the sum of what stood there.
 fn set<Q: Stock>(alloc: Global, opening: Opening, size: usize, rounds: u64) -> Result<i64, NoMemory>
-    requires { Opens Q.Stock opening }
+    requires opens { Opens Q.Stock opening }
+    requires size { size ≤ 2 ^ 20 }
 {
     let mut h = Holder::<Q>::fresh(opening);
     let mut a = filled::<i64, Q>(alloc, size, &mut h)?;
     let mut sum = 0i64;
     for _ in 0..rounds {
         for i in 0..size {
-            if i < a.count() && can_pay(&a, &h) {
-                let old = a.set(i, 7, &mut h).map_err(|e| e.0)?;
-                sum = sum.wrapping_add(old);
-            }
+            let old = a.set(i, 7, &mut h).map_err(|e| e.0)?;
+            sum = sum.wrapping_add(old);
         }
     }
     a.end(&mut h);
@@ -131,18 +147,17 @@ fn copy<T: Numbered<Q>, Q: Stock>(
     size: usize,
     rounds: u64,
 ) -> Result<i64, NoMemory>
-    requires { Opens Q.Stock opening }
+    requires opens { Opens Q.Stock opening }
+    requires size { size ≤ 2 ^ 20 }
 {
     let mut h = Holder::<Q>::fresh(opening);
     let mut a = filled::<T, Q>(alloc, size, &mut h)?;
     let mut sum = 0i64;
     for _ in 0..rounds {
-        if 0 < h.spare() {
+        if 0 < a.count() && a.count() <= MOST && ENOUGH <= h.spare() {
             let mut b = a.copy(&mut h);
-            if 0 < b.count() && can_pay(&b, &h) {
-                let old = b.set(0, T::of(7), &mut h).map_err(|e| e.0)?;
-                old.end(&mut h);
-            }
+            let old = b.set(0, T::of(7), &mut h).map_err(|e| e.0)?;
+            old.end(&mut h);
             sum = sum.wrapping_add(b.count() as i64);
             b.end(&mut h);
         }
@@ -155,49 +170,52 @@ fn copy<T: Numbered<Q>, Q: Stock>(
 fn run<Q: Stock>(
     alloc: Global,
     opening: Opening,
-    workload: &str,
+    workload: Workload,
     size: usize,
     rounds: u64,
-) -> Option<Result<i64, NoMemory>>
-    requires { Opens Q.Stock opening }
+) -> Result<i64, NoMemory>
+    requires opens { Opens Q.Stock opening }
+    requires size { size ≤ 2 ^ 20 }
 {
     match workload {
-        "append" => Some(append::<i64, Q>(alloc, opening, size, rounds)),
-        "get" => Some(get::<Q>(alloc, opening, size, rounds)),
-        "set" => Some(set::<Q>(alloc, opening, size, rounds)),
-        "copy" => Some(copy::<i64, Q>(alloc, opening, size, rounds)),
-        "append-atoms" => Some(append::<Atom<Q>, Q>(alloc, opening, size, rounds)),
-        "copy-atoms" => Some(copy::<Atom<Q>, Q>(alloc, opening, size, rounds)),
-        _ => None,
+        Workload::Append => append::<i64, Q>(alloc, opening, size, rounds),
+        Workload::Get => get::<Q>(alloc, opening, size, rounds),
+        Workload::Set => set::<Q>(alloc, opening, size, rounds),
+        Workload::Copy => copy::<i64, Q>(alloc, opening, size, rounds),
+        Workload::AppendAtoms => append::<Atom<Q>, Q>(alloc, opening, size, rounds),
+        Workload::CopyAtoms => copy::<Atom<Q>, Q>(alloc, opening, size, rounds),
     }
 }
 
 /// Runs one workload and prints what it answers.
 fn report<R: Alloc<A = Global> + Print>(
     rt: &R,
-    workload: &str,
+    word: &str,
+    workload: Workload,
     size: usize,
     rounds: u64,
 ) -> io::Result<()> {
+    let size = size.min(MOST);
     match run::<Brand>(rt.alloc(), Opening::new(), workload, size, rounds) {
-        Some(Ok(n)) => println!(rt; "{workload} {n}"),
-        Some(Err(NoMemory)) => println!(rt; "{workload}: no memory"),
-        None => println!(rt; "bench_array WORKLOAD SIZE ROUNDS"),
+        Ok(n) => println!(rt; "{word} {n}"),
+        Err(NoMemory) => println!(rt; "{word}: no memory"),
     }
 }
 
 fn main(rt: HostRuntime) -> io::Result<()> {
     let words: Vec<String> = std::env::args(&rt)?.collect(rt.alloc())?;
-    if let [_, workload, size, rounds] = words.as_slice() {
-        return report(
-            &rt,
-            workload.as_str(),
-            size.as_str().parse::<usize>().unwrap_or(0),
-            rounds.as_str().parse::<u64>().unwrap_or(0),
-        );
+    if let [_, asked, size, rounds] = words.as_slice() {
+        for (word, workload) in WORKLOADS {
+            if word == asked.as_str() {
+                let size = size.as_str().parse::<usize>().unwrap_or(0);
+                let rounds = rounds.as_str().parse::<u64>().unwrap_or(0);
+                report(&rt, word, workload, size, rounds)?;
+            }
+        }
+        return Ok(());
     }
-    for workload in WORKLOADS {
-        report(&rt, workload, 10, 3)?;
+    for (word, workload) in WORKLOADS {
+        report(&rt, word, workload, 10, 3)?;
     }
     Ok(())
 }

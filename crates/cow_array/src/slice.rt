@@ -12,7 +12,7 @@ use std::alloc::Global;
 use std::marker::Model;
 
 /// A run of an array's elements that keeps their indices, after Swift's `ArraySlice`. It shares the
-/// array's storage and keeps that alive, with the items that it doesn't show.
+/// array's storage and keeps that alive, with the items that it doesn't show. Costs are those of `Array`.
 #[derive(Drop)]
 pub struct ArraySlice<T: Item<Q>, Q: Stock> {
     pub(crate) cell: Counted<Row<T>, Q>,
@@ -38,7 +38,7 @@ impl<T: Item<Q>, Q: Stock> Model for ArraySlice<T, Q> {
 }
 
 impl<T: Item<Q>, Q: Stock> ArraySlice<T, Q> {
-    /// How many elements there are.
+    /// How many elements there are: Swift's `count`. One step.
     #[tactic(auto, using(cow_row::proofs::Runs::row_steps))]
     pub fn count(&self) -> usize
         ensures value { result ≡ length self.now.value.items }
@@ -47,7 +47,7 @@ impl<T: Item<Q>, Q: Stock> ArraySlice<T, Q> {
         self.count
     }
 
-    /// Whether there is no element. One step.
+    /// Whether there is no element: Swift's `isEmpty`. One step.
     #[tactic(auto, using(cow_row::proofs::Runs::row_steps))]
     pub fn is_empty(&self) -> bool
         ensures { IsTrue result ↔ (self.now.value.items ≡ []) }
@@ -64,14 +64,14 @@ impl<T: Item<Q>, Q: Stock> ArraySlice<T, Q> {
         self.cell.get().run(self.from, self.count)
     }
 
-    /// The index of the first element.
+    /// The index of the first element: Swift's `startIndex`. One step.
     pub fn start(&self) -> usize
         ensures { result ≡ self.now.value.start }
     {
         self.start
     }
 
-    /// The index after the last element.
+    /// The index after the last element: Swift's `endIndex`. One step.
     #[tactic(auto, using(cow_row::proofs::Runs::row_steps))]
     pub fn stop(&self) -> usize
         ensures value { result ≡ self.now.value.start + length self.now.value.items }
@@ -265,7 +265,7 @@ impl<T: Item<Q>, Q: Stock> ArraySlice<T, Q> {
 }
 
 impl<T: Key<Q>, Q: Stock> ArraySlice<T, Q> {
-    /// Whether the two have the same elements in the same order, wherever they start.
+    /// Whether the two have the same elements in the same order, wherever they start. One pass at most.
     #[tactic(auto, using(cow_row::proofs::Runs::row_steps))]
     pub fn equals(&self, other: &ArraySlice<T, Q>) -> bool
         ensures { IsTrue result ↔ (self.now.value.items ≡ other.now.value.items) }

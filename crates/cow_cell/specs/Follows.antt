@@ -1,4 +1,4 @@
--- What stands in a handle after `sole`.
+-- What stands in a handle after `sole` and after `only`.
 use Rattle.std.specs.Prelude.{true}
 use base.Fml.{Fml}
 use denote.RattleType.{RattleType}

@@ -1,4 +1,5 @@
-//! The step that tests whether a handle is the only one of its block.
+//! The two ways to the value for writing: the step that tests whether a handle is the only one of its
+//! block, and, where that is known, one read of the pointer.
 ghost use Rattle.std.specs.Prelude.{◌≡◌, ℕ, ◌+◌, ◌-◌, ◌^◌, ◌<◌, ◌≤◌, Bool, true, false, IfSome, IsSome, IsNone};
 ghost use types.Logic.{sem};
 ghost use Rattle.cow_cell.specs.Follows.{follows_unique, follows_only};
@@ -29,10 +30,10 @@ impl<T, Q: Stock> Counted<T, Q> {
         unsafe { Some(&mut (*at).value) }
     }
 
-    /// The value, for writing, of a handle that is alone. The handle is alone still, and shows what the
-    /// reference holds as it ends.
+    /// The value, for writing, of a handle that is alone: what `sole` lends, where its answer is known. The
+    /// handle stays alone, and shows what the reference holds as it ends.
     ///
-    /// No atomic step and no test: one read of a pointer. Takes no memory.
+    /// No atomic step and no test: one read of a pointer, as Rust's `Arc::get_mut_unchecked`. Takes no memory.
     pub fn only(&mut self) -> &mut T
         requires { self.old.alone ≡ true }
         ensures* writes_back { sem 𝓛 (follows_only T.row Q.row Q.Stock self.entry result) }

@@ -13,7 +13,8 @@ use std::alloc::Global;
 use std::marker::Model;
 use std::mem;
 
-/// Items side by side in a buffer, with empty places before and behind them.
+/// Items side by side in a buffer, with empty places before and behind them. Where no cost is said, a call is
+/// one step, and where no memory is spoken of, it takes none. Dropping a row drops each item.
 pub struct Row<T> {
     buf: Buf<T>,
     /// How many places before the first item are empty.
@@ -92,14 +93,14 @@ impl<T: Drop> Row<T> {
         self.buf.at(self.front + i)
     }
 
-    /// The items, in order. One step.
+    /// The items, in order.
     pub fn as_slice(&self) -> &[T]
         ensures { result.now ≡ self.now.items }
     {
         self.buf.run(self.front, self.len)
     }
 
-    /// The `count` items from `start` on, in order. One step.
+    /// The `count` items from `start` on, in order.
     pub fn run(&self, start: usize, count: usize) -> &[T]
         requires { start + count ≤ length self.now.items }
         ensures { result.now ≡ take count (drop start self.now.items) }
@@ -107,7 +108,7 @@ impl<T: Drop> Row<T> {
         self.buf.run(self.front + start, count)
     }
 
-    /// `x` stands last. One step.
+    /// `x` stands last.
     pub fn push(&mut self, x: T)
         requires { length self.old.items < self.old.capacity }
         ensures { self.new ≡ record self.old { items = self.old.items ++ x ∷ [] } }
@@ -116,7 +117,7 @@ impl<T: Drop> Row<T> {
         self.len += 1;
     }
 
-    /// `x` stands in the place of item `i`, which is handed out. One step.
+    /// `x` stands in the place of item `i`, which is handed out.
     pub fn replace(&mut self, i: usize, x: T) -> T
         requires { i < length self.old.items }
         ensures value { slice_get self.old.items i ≡ Some result }
@@ -128,7 +129,7 @@ impl<T: Drop> Row<T> {
         old
     }
 
-    /// The last item, taken out. One step.
+    /// The last item, taken out.
     pub fn pop(&mut self) -> Option<T>
         ensures empty { IfNone result (self.old.items ≡ []) }
         ensures kept { IfNone result (self.new ≡ self.old) }
@@ -143,7 +144,7 @@ impl<T: Drop> Row<T> {
         Some(self.buf.take(self.front + self.len))
     }
 
-    /// The first item, taken out. One step: its place is empty from then on.
+    /// The first item, taken out. Its place is empty from then on.
     pub fn pop_front(&mut self) -> Option<T>
         ensures empty { IfNone result (self.old.items ≡ []) }
         ensures kept { IfNone result (self.new ≡ self.old) }
@@ -160,8 +161,7 @@ impl<T: Drop> Row<T> {
         Some(first)
     }
 
-    /// Item `i`, taken out; the first item stands in its place. One step, where `remove` moves all
-    /// that follow.
+    /// Item `i`, taken out; the first item stands in its place. `remove` moves all that follow instead.
     pub fn swap_remove_front(&mut self, i: usize) -> T
         requires { i < length self.old.items }
         ensures value { slice_get self.old.items i ≡ Some result }
@@ -180,7 +180,7 @@ impl<T: Drop> Row<T> {
         self.replace(i - 1, first)
     }
 
-    /// Items `i` and `j` in each other's place. A fixed number of steps.
+    /// Items `i` and `j` in each other's place.
     pub fn swap(&mut self, i: usize, j: usize)
         requires first { i < length self.old.items }
         requires second { j < length self.old.items }
@@ -195,7 +195,7 @@ impl<T: Drop> Row<T> {
         self.buf.put(self.front + j, x);
     }
 
-    /// The items in the opposite order.
+    /// The items in the opposite order. Linear in their number.
     pub fn reverse(&mut self)
         ensures { self.new ≡ record self.old { items = reverse self.old.items } }
     {
@@ -267,8 +267,8 @@ impl<T: Drop> Row<T> {
     }
 }
 
-/// Copies of the `count` items of `from` from `start` on stand last in `to`. One pass that writes items and
-/// nothing else, and one count of the copies. Takes no memory.
+/// Copies of the `count` items of `from` from `start` on stand last in `to`. One pass over them, and one count
+/// of the copies. Takes no memory.
 pub fn copy_run<T: Item<Q>, Q: Stock>(
     from: &Row<T>,
     start: usize,
@@ -336,7 +336,7 @@ fn item<T>(from: &[T], i: usize) -> &T
     &from[i]
 }
 
-/// Ends each item; the empty row keeps its places. Takes no memory.
+/// Ends each item, in one pass; the empty row keeps its places. Takes no memory.
 pub fn end_items<T: Item<Q>, Q: Stock>(row: &mut Row<T>, h: &mut Holder<Q>)
     ensures empty { row.new ≡ record row.old { items = [] } }
     ensures paid { h.new ≡ more (count_by T.is_counted (map T.plain row.old.items)) h.old }
@@ -373,7 +373,7 @@ pub fn replace_run<T: Item<Q>, Q: Stock>(
     end_places(&mut row.buf, place, count, h);
     row.buf
         .shift(place + count, place + added, row.len - start - count);
-    fill(&mut row.buf, place, items);
+    replace_with(&mut row.buf, (place, items), filled);
     row.len = row.len - count + added;
 }
 
@@ -400,16 +400,19 @@ fn end_places<T: Item<Q>, Q: Stock>(buf: &mut Buf<T>, from: usize, count: usize,
     }
 }
 
-/// Puts the items into the empty places from `from` on.
-fn fill<T: Drop>(buf: &mut Buf<T>, from: usize, items: Vec<T>)
-    requires within { from + length items.items ≤ length buf.old }
-    requires empty { IsClear buf.old from (from + length items.items) }
-    requires small { from + length items.items ≤ 2 ^ 32 }
-    ensures { buf.new ≡ splice buf.old from (from + length items.items) (map Some items.items) }
+/// Puts the items into the empty places from `run.0` on. The buffer is had by value, as in `with_twins`.
+fn filled<T: Drop>(buf: Buf<T>, run: (usize, Vec<T>)) -> (Buf<T>, ())
+    requires within { run.0 + length run.1.items ≤ length buf }
+    requires empty { IsClear buf run.0 (run.0 + length run.1.items) }
+    requires small { run.0 + length run.1.items ≤ 2 ^ 32 }
+    ensures { result.0 ≡ splice buf run.0 (run.0 + length run.1.items) (map Some run.1.items) }
 {
+    let (from, items) = run;
+    let mut buf = buf;
     let mut at = from;
     for x in items {
         buf.put(at, x);
         at += 1;
     }
+    (buf, ())
 }

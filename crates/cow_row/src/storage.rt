@@ -11,24 +11,7 @@ use cow_model::NoMemory;
 use std::alloc::Global;
 use std::mem;
 
-/// The items, settled, stand last in `to`. Takes no memory.
-pub fn take_items<T: Item<Q>, Q: Stock>(items: Vec<T>, to: &mut Row<T>)
-    requires to_settled { All T.IsSettled to.old.items }
-    requires room { length to.old.items + length items.items ≤ to.old.capacity }
-    ensures same { map T.plain to.new.items ≡ map T.plain to.old.items ++ map T.plain items.items }
-    ensures count { length to.new.items ≡ length to.old.items + length items.items }
-    ensures settled { All T.IsSettled to.new.items }
-    ensures capacity { to.new.capacity ≡ to.old.capacity }
-    ensures front { to.new.front ≡ to.old.front }
-{
-    for x in items {
-        let mut x = x;
-        x.settle();
-        to.push(x);
-    }
-}
-
-/// Ends the handle, and its items where it was the last one.
+/// Ends the handle, and its items where it was the last one. Takes no memory.
 pub fn end_cell<T: Item<Q>, Q: Stock>(cell: Counted<Row<T>, Q>, h: &mut Holder<Q>)
     ensures moved { Moves (count_by T.is_counted (map T.plain cell.value.items)) 0 (more 1 h.old) h.new }
     ensures exact { cell.alone ≡ true → h.new ≡ more (count_by T.is_counted (map T.plain cell.value.items)) (more 1 h.old) }
@@ -160,7 +143,8 @@ fn has_room<T: Drop, Q: Stock>(
     }
 }
 
-/// Makes the handle alone, with room for `extra` more items.
+/// Makes the handle alone, with room for `extra` more items. One look at the handle where there is nothing to
+/// do.
 #[inline]
 pub fn prepare<T: Item<Q>, Q: Stock>(
     cell: &mut Counted<Row<T>, Q>,
@@ -209,6 +193,7 @@ pub fn reserve<T: Item<Q>, Q: Stock>(
     ensures enough { OnOk result (capacity ≤ cell.new.value.capacity) }
     ensures most { cell.new.value.capacity ≤ max capacity (cell.old.value.front + cell.old.value.capacity) }
     ensures in_place { cell.old.alone ≡ true → capacity ≤ cell.old.value.capacity → IsOk result × (cell.new ≡ cell.old) }
+    ensures free { cell.old.alone ≡ true → h.new ≡ h.old }
     ensures refused { OnErr result ((cell.new.value ≡ cell.old.value) × (h.new ≡ h.old)) }
     ensures kept { OnErr result (cell.old.alone ≡ true → cell.new.alone ≡ true) }
     ensures moved { Moves (count_by T.is_counted (map T.plain cell.old.value.items)) (copies cell.old.alone (T.WEIGHT * length cell.old.value.items)) h.old h.new }

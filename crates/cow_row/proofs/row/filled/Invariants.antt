@@ -1,6 +1,6 @@
 use Rattle.std.proofs.Common.{◌≡◌, ◌+◌, map, length, Some}
 use Rattle.std.specs.List.{splice}
-use Rattle.cow_row.proofs.row.fill.Given as goal
+use Rattle.cow_row.proofs.row.filled.Given as goal
 
 abbrev pub invariant-loop-x : goal.invariant-loop-x
 invariant-loop-x g l =
