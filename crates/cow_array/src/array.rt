@@ -4,6 +4,7 @@ ghost use Rattle.cow_model.specs.Purse.{Moves, less, more, unit_if};
 ghost use Rattle.cow_row.specs.RowView.{IsSound};
 ghost use Rattle.cow_model.specs.Lists.{Pays};
 ghost use Rattle.cow_model.specs.Flat.{Becomes, Stays, HasRoom, need, copies, settled};
+ghost use Rattle.cow_array.specs.Growth.{HasDoubled};
 
 use crate::slice::ArraySlice;
 use cow_cell::{Counted, Holder, Stock};
@@ -15,6 +16,10 @@ use std::marker::Model;
 
 /// A list of elements over counted storage, after Swift's `Array`. A copy shares the storage until
 /// one of the two is changed.
+///
+/// A change of a storage that others hold copies the elements first, in linear time; what is said below of
+/// costs holds where the storage is unshared. Only `new`, `from_vec` and the calls that answer `NoMemory` take
+/// memory.
 #[derive(Drop)]
 pub struct Array<T: Item<Q>, Q: Stock> {
     pub(crate) cell: Counted<Row<T>, Q>,
@@ -35,7 +40,7 @@ impl<T: Item<Q>, Q: Stock> Model for Array<T, Q> {
 }
 
 impl<T: Item<Q>, Q: Stock> Array<T, Q> {
-    /// An empty array.
+    /// An empty array: Swift's `init()`. Takes one block of memory. Answers `NoMemory` only for want of it.
     pub fn new(alloc: Global, h: &mut Holder<Q>) -> Result<Array<T, Q>, NoMemory>
         requires { 1 ≤ h.old.spare }
         ensures ok { IfOk result (λ a. Becomes [] a) }
@@ -49,7 +54,7 @@ impl<T: Item<Q>, Q: Stock> Array<T, Q> {
         }
     }
 
-    /// An array of these items, none of them copied. Linear in their number.
+    /// An array of these items, none of them copied. Linear in their number: they move once.
     pub fn from_vec(
         alloc: Global,
         items: Vec<T>,
@@ -69,14 +74,11 @@ impl<T: Item<Q>, Q: Stock> Array<T, Q> {
             Ok(cell) => cell,
             Err((refused, _row)) => return Err((refused, items)),
         };
-        match cell.sole(h) {
-            Some(row) => storage::take_items(items, row),
-            None => unreachable!(),
-        }
+        row::replace_run(cell.only(), 0, 0, items, h);
         Ok(Array { cell, alloc })
     }
 
-    /// How many elements there are.
+    /// How many elements there are: Swift's `count`. One step.
     pub fn count(&self) -> usize
         ensures value { result ≡ length self.now.value }
         ensures small { result < 2 ^ 31 }
@@ -84,7 +86,22 @@ impl<T: Item<Q>, Q: Stock> Array<T, Q> {
         self.cell.get().len()
     }
 
-    /// Element `i`; `None` exactly where there is none. One step.
+    /// Whether there is no element: Swift's `isEmpty`. One step.
+    pub fn is_empty(&self) -> bool
+        ensures { IsTrue result ↔ (self.now.value ≡ []) }
+    {
+        self.cell.get().is_empty()
+    }
+
+    /// The elements, in order, for reading: whatever std does with a slice can be done with them. One step.
+    pub fn as_slice(&self) -> &[T]
+        ensures value { map T.plain result.now ≡ self.now.value }
+        ensures settled { All T.IsSettled result.now }
+    {
+        self.cell.get().as_slice()
+    }
+
+    /// Element `i`; `None` exactly where there is none. Swift's subscript. One step.
     pub fn get(&self, i: usize) -> Option<&T>
         ensures value { option_map (λ x. T.plain x.now) result ≡ slice_get self.now.value i }
         ensures settled { IfSome result (λ x. T.IsSettled x.now) }
@@ -130,39 +147,37 @@ impl<T: Item<Q>, Q: Stock> Array<T, Q> {
         self.cell.settle();
     }
 
-    /// The handle is given back; the last one of a storage ends its items.
+    /// The handle is given back; the last one of a storage ends its items, in one pass.
     pub fn end(self, h: &mut Holder<Q>)
         ensures moved { Moves (count_by T.is_counted self.value) 0 (more 1 h.old) h.new }
+        ensures exact { self.alone ≡ true → h.new ≡ more (count_by T.is_counted self.value) (more 1 h.old) }
         ensures never_less { h.old.spare + 1 ≤ h.new.spare }
     {
         let Array { cell, alloc: _ } = self;
         storage::end_cell(cell, h);
     }
 
-    /// `x` stands last. One step over many calls: a full storage at least doubles.
+    /// `x` stands last: Swift's `append`. One step over many calls: a full storage at least doubles.
     pub fn append(&mut self, x: T, h: &mut Holder<Q>) -> Result<(), (NoMemory, T)>
         requires growth { length self.old.value + 1 < 2 ^ 31 }
         requires spare { need (length self.old.value) ≤ h.old.spare }
         ensures ok { OnOk result (Becomes (self.old.value ++ T.plain x ∷ []) self.new) }
         ensures within { HasRoom 1 self.old → IsOk result × (self.new.room + 1 ≡ self.old.room) }
-        ensures doubled { self.old.room ≡ 0 → OnOk result (length self.old.value ≤ self.new.room + 1) }
+        ensures doubled { self.old.room ≡ 0 → OnOk result (HasDoubled (length self.old.value) 1 self.new) }
         ensures refused { IfErr result (λ e. Stays self.old self.new × (h.new ≡ h.old) × (e.1 ≡ x)) }
         ensures paid { Pays T.is_counted T.WEIGHT self.old h.old h.new }
+        ensures free { self.old.alone ≡ true → h.new ≡ h.old }
     {
         if let Err(refused) = storage::prepare(&mut self.cell, self.alloc, 1, h) {
             return Err((refused, x));
         }
         let mut x = x;
         x.settle();
-        match self.cell.sole(h) {
-            Some(row) => row.push(x),
-            None => unreachable!(),
-        }
+        self.cell.only().push(x);
         Ok(())
     }
 
-    /// `x` stands in the place of element `i`, which is handed out. One step where the storage is
-    /// unshared.
+    /// `x` stands in the place of element `i`, which is handed out: Swift's subscript, assigned to. One step.
     #[tactic(auto, using(cow_row::proofs::Runs::row_steps))]
     pub fn set(&mut self, i: usize, x: T, h: &mut Holder<Q>) -> Result<T, (NoMemory, T)>
         requires place { i < length self.old.value }
@@ -172,19 +187,17 @@ impl<T: Item<Q>, Q: Stock> Array<T, Q> {
         ensures within { self.old.alone ≡ true → IsOk result × (self.new.room ≡ self.old.room) }
         ensures refused { IfErr result (λ e. Stays self.old self.new × (h.new ≡ h.old) × (e.1 ≡ x)) }
         ensures paid { Pays T.is_counted T.WEIGHT self.old h.old h.new }
+        ensures free { self.old.alone ≡ true → h.new ≡ h.old }
     {
         if let Err(refused) = storage::prepare(&mut self.cell, self.alloc, 0, h) {
             return Err((refused, x));
         }
         let mut x = x;
         x.settle();
-        match self.cell.sole(h) {
-            Some(row) => Ok(row.replace(i, x)),
-            None => unreachable!(),
-        }
+        Ok(self.cell.only().replace(i, x))
     }
 
-    /// `x` stands at `i`; what stood there and behind moves up.
+    /// `x` stands at `i`; what stood there and behind moves up, by one move of memory. Swift's `insert(at:)`.
     #[tactic(auto, using(cow_row::proofs::Runs::row_steps))]
     pub fn insert(&mut self, i: usize, x: T, h: &mut Holder<Q>) -> Result<(), (NoMemory, T)>
         requires place { i ≤ length self.old.value }
@@ -192,23 +205,21 @@ impl<T: Item<Q>, Q: Stock> Array<T, Q> {
         requires spare { need (length self.old.value) ≤ h.old.spare }
         ensures ok { OnOk result (Becomes (insert self.old.value i (T.plain x)) self.new) }
         ensures within { HasRoom 1 self.old → IsOk result × (self.new.room + 1 ≡ self.old.room) }
-        ensures doubled { self.old.room ≡ 0 → OnOk result (length self.old.value ≤ self.new.room + 1) }
+        ensures doubled { self.old.room ≡ 0 → OnOk result (HasDoubled (length self.old.value) 1 self.new) }
         ensures refused { IfErr result (λ e. Stays self.old self.new × (h.new ≡ h.old) × (e.1 ≡ x)) }
         ensures paid { Pays T.is_counted T.WEIGHT self.old h.old h.new }
+        ensures free { self.old.alone ≡ true → h.new ≡ h.old }
     {
         if let Err(refused) = storage::prepare(&mut self.cell, self.alloc, 1, h) {
             return Err((refused, x));
         }
         let mut x = x;
         x.settle();
-        match self.cell.sole(h) {
-            Some(row) => row.insert(i, x),
-            None => unreachable!(),
-        }
+        self.cell.only().insert(i, x);
         Ok(())
     }
 
-    /// Element `i`, taken out; what stood behind moves down.
+    /// Element `i`, taken out; what stood behind moves down, by one move of memory. Swift's `remove(at:)`.
     #[tactic(auto, using(cow_row::proofs::Runs::row_steps))]
     pub fn remove(&mut self, i: usize, h: &mut Holder<Q>) -> Result<T, NoMemory>
         requires place { i < length self.old.value }
@@ -218,16 +229,13 @@ impl<T: Item<Q>, Q: Stock> Array<T, Q> {
         ensures within { self.old.alone ≡ true → IsOk result × (self.new.room ≡ self.old.room + 1) }
         ensures refused { OnErr result (Stays self.old self.new × (h.new ≡ h.old)) }
         ensures paid { Pays T.is_counted T.WEIGHT self.old h.old h.new }
+        ensures free { self.old.alone ≡ true → h.new ≡ h.old }
     {
         storage::prepare(&mut self.cell, self.alloc, 0, h)?;
-        match self.cell.sole(h) {
-            Some(row) => Ok(row.remove(i)),
-            None => unreachable!(),
-        }
+        Ok(self.cell.only().remove(i))
     }
 
-    /// The last element, taken out; `None` exactly where there is none. One step where the storage is
-    /// unshared.
+    /// The last element, taken out; `None` exactly where there is none. Swift's `popLast`. One step.
     #[tactic(auto, using(cow_row::proofs::Runs::row_steps))]
     pub fn pop_last(&mut self, h: &mut Holder<Q>) -> Result<Option<T>, NoMemory>
         requires spare { need (length self.old.value) ≤ h.old.spare }
@@ -238,18 +246,16 @@ impl<T: Item<Q>, Q: Stock> Array<T, Q> {
         ensures within { self.old.alone ≡ true → IsOk result × (self.new.room + length self.new.value ≡ self.old.room + length self.old.value) }
         ensures refused { OnErr result (Stays self.old self.new × (h.new ≡ h.old)) }
         ensures paid { Pays T.is_counted T.WEIGHT self.old h.old h.new }
+        ensures free { self.old.alone ≡ true → h.new ≡ h.old }
     {
         if self.count() == 0 {
             return Ok(None);
         }
         storage::prepare(&mut self.cell, self.alloc, 0, h)?;
-        match self.cell.sole(h) {
-            Some(row) => Ok(row.pop()),
-            None => unreachable!(),
-        }
+        Ok(self.cell.only().pop())
     }
 
-    /// Elements `i` and `j` in each other's place. One step where the storage is unshared.
+    /// Elements `i` and `j` in each other's place: Swift's `swapAt`. One step.
     #[tactic(auto, using(cow_row::proofs::Runs::row_steps))]
     pub fn swap_at(&mut self, i: usize, j: usize, h: &mut Holder<Q>) -> Result<(), NoMemory>
         requires first { i < length self.old.value }
@@ -259,16 +265,14 @@ impl<T: Item<Q>, Q: Stock> Array<T, Q> {
         ensures within { self.old.alone ≡ true → IsOk result × (self.new.room ≡ self.old.room) }
         ensures refused { OnErr result (Stays self.old self.new × (h.new ≡ h.old)) }
         ensures paid { Pays T.is_counted T.WEIGHT self.old h.old h.new }
+        ensures free { self.old.alone ≡ true → h.new ≡ h.old }
     {
         storage::prepare(&mut self.cell, self.alloc, 0, h)?;
-        match self.cell.sole(h) {
-            Some(row) => row.swap(i, j),
-            None => unreachable!(),
-        }
+        self.cell.only().swap(i, j);
         Ok(())
     }
 
-    /// The elements in the opposite order.
+    /// The elements in the opposite order: Swift's `reverse`. Linear in their number.
     #[tactic(auto, using(cow_row::proofs::Runs::row_steps))]
     pub fn reverse(&mut self, h: &mut Holder<Q>) -> Result<(), NoMemory>
         requires spare { need (length self.old.value) ≤ h.old.spare }
@@ -276,17 +280,15 @@ impl<T: Item<Q>, Q: Stock> Array<T, Q> {
         ensures within { self.old.alone ≡ true → IsOk result × (self.new.room ≡ self.old.room) }
         ensures refused { OnErr result (Stays self.old self.new × (h.new ≡ h.old)) }
         ensures paid { Pays T.is_counted T.WEIGHT self.old h.old h.new }
+        ensures free { self.old.alone ≡ true → h.new ≡ h.old }
     {
         storage::prepare(&mut self.cell, self.alloc, 0, h)?;
-        match self.cell.sole(h) {
-            Some(row) => row.reverse(),
-            None => unreachable!(),
-        }
+        self.cell.only().reverse();
         Ok(())
     }
 
     /// `items` stand in the place of the elements from `i` up to `j`, which end. What stands behind moves
-    /// once.
+    /// once, by one move of memory. Swift's `replaceSubrange`. One step for each element that comes or goes.
     #[tactic(auto, using(cow_row::proofs::Runs::row_steps))]
     pub fn replace(
         &mut self,
@@ -298,43 +300,41 @@ impl<T: Item<Q>, Q: Stock> Array<T, Q> {
         requires order { i ≤ j }
         requires within { j ≤ length self.old.value }
         requires growth { length self.old.value + vec_len items < 2 ^ 31 + (j - i) }
-        requires spare { need (length self.old.value + vec_len items) ≤ h.old.spare }
+        requires spare { need (length self.old.value) ≤ h.old.spare }
         ensures ok { OnOk result (Becomes (splice self.old.value i j (map T.plain items.items)) self.new) }
         ensures within { HasRoom (vec_len items - (j - i)) self.old → IsOk result × (self.new.room + vec_len items ≡ self.old.room + (j - i)) }
         ensures refused { IfErr result (λ e. Stays self.old self.new × (h.new ≡ h.old) × (e.1.items ≡ items.items)) }
+        ensures exact { self.old.alone ≡ true → OnOk result (h.new ≡ more (count_by T.is_counted (slice_range self.old.value i j)) h.old) }
         ensures paid { Pays T.is_counted T.WEIGHT self.old h.old h.new }
     {
         let extra = items.len().saturating_sub(j - i);
         if let Err(refused) = storage::prepare(&mut self.cell, self.alloc, extra, h) {
             return Err((refused, items));
         }
-        match self.cell.sole(h) {
-            Some(row) => row::replace_run(row, i, j - i, items, h),
-            None => unreachable!(),
-        }
+        row::replace_run(self.cell.only(), i, j - i, items, h);
         Ok(())
     }
 
-    /// Copies of the other's elements stand last. Linear in their number where the storage is unshared.
+    /// Copies of the other's elements stand last: Swift's `append(contentsOf:)`. Linear in their number over many
+    /// calls: a storage without room for them at least doubles.
     #[tactic(auto, using(cow_row::proofs::Runs::row_steps))]
     pub fn extend(&mut self, other: &Array<T, Q>, h: &mut Holder<Q>) -> Result<(), NoMemory>
         requires growth { length self.old.value + length other.now.value < 2 ^ 31 }
         requires spare { need (length self.old.value + length other.now.value) ≤ h.old.spare }
         ensures ok { OnOk result (Becomes (self.old.value ++ other.now.value) self.new) }
         ensures within { HasRoom (length other.now.value) self.old → IsOk result × (self.new.room + length other.now.value ≡ self.old.room) }
+        ensures doubled { self.old.room < length other.now.value → OnOk result (HasDoubled (length self.old.value) (length other.now.value) self.new) }
         ensures refused { OnErr result (Stays self.old self.new × (h.new ≡ h.old)) }
         ensures paid { Moves (count_by T.is_counted (self.old.value ++ other.now.value)) (copies self.old.alone (T.WEIGHT * length self.old.value) + T.WEIGHT * length other.now.value) h.old h.new }
     {
         let from = other.cell.get();
         storage::prepare(&mut self.cell, self.alloc, from.len(), h)?;
-        match self.cell.sole(h) {
-            Some(row) => storage::copy_run(from, 0, from.len(), row, h),
-            None => unreachable!(),
-        }
+        storage::copy_run(from, 0, from.len(), self.cell.only(), h);
         Ok(())
     }
 
-    /// Room for at least `n` more elements, and for no more than that where the storage grows.
+    /// Room for at least `n` more elements, and for no more than that where the storage grows: Swift's
+    /// `reserveCapacity`. Takes memory once, and moves the elements once, where it grows.
     pub fn reserve(&mut self, n: usize, h: &mut Holder<Q>) -> Result<(), NoMemory>
         requires growth { n ≤ 2 ^ 30 }
         requires spare { need (length self.old.value) ≤ h.old.spare }
@@ -344,16 +344,19 @@ impl<T: Item<Q>, Q: Stock> Array<T, Q> {
         ensures within { HasRoom n self.old → IsOk result × (self.new ≡ self.old) }
         ensures refused { OnErr result (Stays self.old self.new × (h.new ≡ h.old)) }
         ensures paid { Pays T.is_counted T.WEIGHT self.old h.old h.new }
+        ensures free { self.old.alone ≡ true → h.new ≡ h.old }
     {
         let capacity = self.count() + n;
         storage::reserve(&mut self.cell, self.alloc, capacity, h)
     }
 
-    /// No elements. An unshared storage ends its items and keeps its room.
+    /// No elements. An unshared storage ends its items, in one pass, and keeps its room: Swift's
+    /// `removeAll(keepingCapacity:)`.
     pub fn clear(&mut self, h: &mut Holder<Q>) -> Result<(), NoMemory>
         requires spare { need (length self.old.value) ≤ h.old.spare }
         ensures ok { OnOk result (Becomes [] self.new) }
         ensures within { self.old.alone ≡ true → IsOk result × (self.new.room ≡ self.old.room + length self.old.value) }
+        ensures exact { self.old.alone ≡ true → h.new ≡ more (count_by T.is_counted self.old.value) h.old }
         ensures refused { OnErr result (Stays self.old self.new × (h.new ≡ h.old)) }
         ensures paid { Moves (count_by T.is_counted self.old.value) 0 h.old h.new }
     {
@@ -385,7 +388,7 @@ impl<T: Item<Q>, Q: Stock> Array<T, Q> {
 }
 
 impl<T: Key<Q>, Q: Stock> Array<T, Q> {
-    /// Whether the two have the same elements in the same order.
+    /// Whether the two have the same elements in the same order: Swift's `==`. One pass at most.
     pub fn equals(&self, other: &Array<T, Q>) -> bool
         ensures { IsTrue result ↔ (self.now.value ≡ other.now.value) }
     {

@@ -8,7 +8,7 @@
 //! Contracts see a list, whether the handle is known to be alone, and the room (`docs/CONTRACTS.md`);
 //! of a slice they see its start besides, and the units of all items in its storage. A change takes all
 //! its memory before it moves an item, so an answer `NoMemory` leaves every value as it was and hands
-//! back what was given.
+//! back what was given. Elements are read by `get`, or all at once as a slice of std by `as_slice`.
 //!
 //! The invariant of both: the items of the storage are settled, so that a copy of one can't be refused.
 //! An array's items begin at the first place of the buffer; a slice's may begin behind it, since its

@@ -1,6 +1,7 @@
 ghost use Rattle.std.specs.Prelude.{◌≡◌, ℕ, ◌+◌, ◌-◌, ◌*◌, ◌<◌, ◌≤◌, ◌^◌, List, [], ◌∷◌, ◌++◌, length, map, take, drop, count_by, slice_get, slice_set, IfOk, IfErr, OnOk, OnErr, IsOk, IsSome, IsNone, IfSome, IfNone, IsTrue, ◌↔◌, All, option_map, true, false, if◌then◌else◌};
 ghost use Rattle.cow_model.specs.Purse.{Moves, less, more, unit_if};
 ghost use Rattle.cow_model.specs.Flat.{need, copies, settled, HasRoom, Stays, Becomes};
+ghost use Rattle.cow_array.specs.Growth.{HasDoubled};
 
 use crate::array::Array;
 use cow_cell::{Counted, Holder, Stock};
@@ -11,7 +12,7 @@ use std::alloc::Global;
 use std::marker::Model;
 
 /// A run of an array's elements that keeps their indices, after Swift's `ArraySlice`. It shares the
-/// array's storage and keeps that alive, with the items that it doesn't show.
+/// array's storage and keeps that alive, with the items that it doesn't show. Costs are those of `Array`.
 #[derive(Drop)]
 pub struct ArraySlice<T: Item<Q>, Q: Stock> {
     pub(crate) cell: Counted<Row<T>, Q>,
@@ -37,7 +38,7 @@ impl<T: Item<Q>, Q: Stock> Model for ArraySlice<T, Q> {
 }
 
 impl<T: Item<Q>, Q: Stock> ArraySlice<T, Q> {
-    /// How many elements there are.
+    /// How many elements there are: Swift's `count`. One step.
     #[tactic(auto, using(cow_row::proofs::Runs::row_steps))]
     pub fn count(&self) -> usize
         ensures value { result ≡ length self.now.value.items }
@@ -46,14 +47,31 @@ impl<T: Item<Q>, Q: Stock> ArraySlice<T, Q> {
         self.count
     }
 
-    /// The index of the first element.
+    /// Whether there is no element: Swift's `isEmpty`. One step.
+    #[tactic(auto, using(cow_row::proofs::Runs::row_steps))]
+    pub fn is_empty(&self) -> bool
+        ensures { IsTrue result ↔ (self.now.value.items ≡ []) }
+    {
+        self.count == 0
+    }
+
+    /// The elements, in order, for reading. One step.
+    #[tactic(auto, using(cow_row::proofs::Runs::row_steps))]
+    pub fn as_slice(&self) -> &[T]
+        ensures value { map T.plain result.now ≡ self.now.value.items }
+        ensures settled { All T.IsSettled result.now }
+    {
+        self.cell.get().run(self.from, self.count)
+    }
+
+    /// The index of the first element: Swift's `startIndex`. One step.
     pub fn start(&self) -> usize
         ensures { result ≡ self.now.value.start }
     {
         self.start
     }
 
-    /// The index after the last element.
+    /// The index after the last element: Swift's `endIndex`. One step.
     #[tactic(auto, using(cow_row::proofs::Runs::row_steps))]
     pub fn stop(&self) -> usize
         ensures value { result ≡ self.now.value.start + length self.now.value.items }
@@ -118,6 +136,7 @@ impl<T: Item<Q>, Q: Stock> ArraySlice<T, Q> {
     /// The handle is given back; the last one of a storage ends its items, shown or not.
     pub fn end(self, h: &mut Holder<Q>)
         ensures moved { Moves self.value.units 0 (more 1 h.old) h.new }
+        ensures exact { self.alone ≡ true → h.new ≡ more self.value.units (more 1 h.old) }
         ensures never_less { h.old.spare + 1 ≤ h.new.spare }
     {
         let ArraySlice { cell, .. } = self;
@@ -147,10 +166,7 @@ impl<T: Item<Q>, Q: Stock> ArraySlice<T, Q> {
         }
         let mut x = x;
         x.settle();
-        match self.cell.sole(h) {
-            Some(row) => Ok(row.replace(self.from + (i - self.start), x)),
-            None => unreachable!(),
-        }
+        Ok(self.cell.only().replace(self.from + (i - self.start), x))
     }
 
     /// `x` stands last, and the start stays. One step over many calls where the storage is unshared,
@@ -166,6 +182,7 @@ impl<T: Item<Q>, Q: Stock> ArraySlice<T, Q> {
         ensures units { OnOk result (self.new.value.units ≤ self.old.value.units + unit_if (T.is_counted (T.plain x))) }
         ensures alone { OnOk result (self.new.alone ≡ true) }
         ensures within { HasRoom 1 self.old → IsOk result × (self.new.room + 1 ≡ self.old.room) }
+        ensures doubled { self.old.room ≡ 0 → OnOk result (length self.old.value.items ≤ self.new.room + 1) }
         ensures refused { IfErr result (λ e. Stays self.old self.new × (h.new ≡ h.old) × (e.1 ≡ x)) }
         ensures falls { h.old.spare ≤ h.new.spare + length self.old.value.items }
         ensures moved { Moves self.old.value.units (copies self.old.alone (T.WEIGHT * length self.old.value.items)) h.old h.new }
@@ -176,10 +193,7 @@ impl<T: Item<Q>, Q: Stock> ArraySlice<T, Q> {
         }
         let mut x = x;
         x.settle();
-        match self.cell.sole(h) {
-            Some(row) => storage::put_behind(row, self.from + self.count, x, h),
-            None => unreachable!(),
-        }
+        storage::put_behind(self.cell.only(), self.from + self.count, x, h);
         self.count += 1;
         Ok(())
     }
@@ -192,6 +206,7 @@ impl<T: Item<Q>, Q: Stock> ArraySlice<T, Q> {
         ensures ok { IfOk result (λ a. Becomes self.value.items a) }
         ensures within { self.alone ≡ true → IsOk result }
         ensures refused { IfErr result (λ e. (e.1 ≡ self) × (h.new ≡ h.old)) }
+        ensures exact { self.alone ≡ true → h.new.spare + count_by T.is_counted self.value.items ≡ h.old.spare + self.value.units }
         ensures falls { h.old.spare ≤ h.new.spare + length self.value.items }
         ensures moved { Moves self.value.units (copies self.alone (T.WEIGHT * length self.value.items)) h.old h.new }
     {
@@ -250,7 +265,7 @@ impl<T: Item<Q>, Q: Stock> ArraySlice<T, Q> {
 }
 
 impl<T: Key<Q>, Q: Stock> ArraySlice<T, Q> {
-    /// Whether the two have the same elements in the same order, wherever they start.
+    /// Whether the two have the same elements in the same order, wherever they start. One pass at most.
     #[tactic(auto, using(cow_row::proofs::Runs::row_steps))]
     pub fn equals(&self, other: &ArraySlice<T, Q>) -> bool
         ensures { IsTrue result ↔ (self.now.value.items ≡ other.now.value.items) }

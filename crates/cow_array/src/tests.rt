@@ -5,8 +5,10 @@ ghost use Rattle.cow_model.specs.Flat.{need};
 use crate::{Array, ArraySlice};
 use cow_cell::{Holder, Opening, Stock};
 use cow_item::{Atom, Text};
+use cow_row::Row;
 use std::alloc::Global;
 use std::marker::Brand;
+use std::sync::atomic::{AtomicU64, Ordering};
 use std::test::Fail;
 use std::thread;
 use std::thread::Threads;
@@ -25,9 +27,9 @@ fn can_pay_slice<Q: Stock>(s: &ArraySlice<i64, Q>, h: &Holder<Q>) -> bool
     16 * (s.count() as u64) + 512 <= h.spare()
 }
 
-/// Whether the array shows these elements.
+/// Whether the array shows these elements, one by one and as a slice.
 fn shows<Q: Stock>(a: &Array<i64, Q>, expected: &[i64]) -> bool {
-    if a.count() != expected.len() {
+    if a.as_slice() != expected || a.is_empty() != expected.is_empty() {
         return false;
     }
     for i in 0..expected.len() {
@@ -41,7 +43,7 @@ fn shows<Q: Stock>(a: &Array<i64, Q>, expected: &[i64]) -> bool {
 
 /// Whether the slice shows these elements from `start` on, and none below.
 fn shows_slice<Q: Stock>(s: &ArraySlice<i64, Q>, start: usize, expected: &[i64]) -> bool {
-    if s.start() != start || s.count() != expected.len() || start > 1000 {
+    if s.start() != start || s.as_slice() != expected || s.is_empty() || start > 1000 {
         return false;
     }
     for i in 0..expected.len() {
@@ -379,5 +381,38 @@ fn changed_by_two<Q: Stock + Send + Sync, R: Threads + Sync>(
 fn two_threads_change_a_copy_each(rt: HostRuntime) -> Result<(), Fail> {
     let found = changed_by_two::<Brand, HostRuntime>(&rt, rt.alloc(), Opening::new());
     assert_eq!(rt; found, Some((2, 2, 1, true)));
+    Ok(())
+}
+
+/// A value that counts its drops.
+struct Dropped<'a> {
+    drops: &'a AtomicU64,
+}
+
+impl<'a> Drop for Dropped<'a> {
+    fn drop(self) {
+        let Dropped { drops } = self;
+        drops.fetch_add(1, Ordering::SeqCst);
+    }
+}
+
+/// Of five items of a row one is taken out at each end; the others move to the first place and to a wider
+/// buffer, and drop with the row.
+#[test]
+fn a_row_drops_each_item_once(rt: HostRuntime) -> Result<(), Fail> {
+    let drops = AtomicU64::new(0);
+    let mut row = Row::with_capacity(rt.alloc(), 4)?;
+    row.push(Dropped { drops: &drops });
+    row.push(Dropped { drops: &drops });
+    row.push(Dropped { drops: &drops });
+    row.push(Dropped { drops: &drops });
+    drop(row.pop_front());
+    drop(row.pop());
+    assert_eq!(rt; drops.load(Ordering::SeqCst), 2);
+    row.reserve(rt.alloc(), 9)?;
+    row.push(Dropped { drops: &drops });
+    assert_eq!(rt; drops.load(Ordering::SeqCst), 2);
+    drop(row);
+    assert_eq!(rt; drops.load(Ordering::SeqCst), 5);
     Ok(())
 }

@@ -1,10 +1,9 @@
 pub mod Arrays
 pub mod Copies
 pub mod Fields
-pub mod Flags
+pub mod Handed
 pub mod Keyless
 pub mod Lending
 pub mod Moves
 pub mod Rows
-pub mod Stretches
 pub mod Walks

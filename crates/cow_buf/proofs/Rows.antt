@@ -1,15 +1,16 @@
 -- A row of places is taken apart, and put together again. Assumes `Logic`.
-use Rattle.std.proofs.Common.{◌≡◌, ℕ, zero, suc, ◌+◌, ◌*◌, ◌<◌, ◌≤◌, ◌^◌, List, [], ◌∷◌, ◌++◌, length, take, drop, get_or, replicate, Option, Some, None, refl, sym, ap, ◌∙◌, arith, take-append-drop, drop-drop}
+use Rattle.std.proofs.Common.{◌≡◌, ℕ, zero, suc, ◌+◌, ◌*◌, ◌<◌, ◌≤◌, ◌^◌, List, [], ◌∷◌, ◌++◌, map, length, take, drop, get_or, replicate, Option, Some, None, refl, sym, ap, ◌∙◌, arith, take-append-drop, drop-drop}
 use Rattle.std.proofs.lemmas.List.{length-take-le, length-drop}
 use Rattle.std.specs.Mem.{type_size}
 use lib.ListN.{set}
 use native.Mathlib.Nat.{zero-mul, suc-mul}
 use seplogic.Ra.Ura.{Ura}
-use base.Logic.{SProp, ent, sep, via, snd∗}
+use base.Logic.{SProp, ent, sep, via, snd∗, id⊢}
 use base.Fml.{Lft, Fml, ftrue, fsep, froom}
 use mir.Syntax.{ty_array}
 use types.Logic.{Logic, sem}
 use types.Kit.{‵, ◌⊛◌, ◌$◌, ◌∵◌, !, qed, by, move, keep, drop as skip, use1, use2, split, frame, rewrite, fsplit, fjoin, done}
+use denote.Slice.{elements_shared}
 use denote.Steps.{nothing}
 use Rattle.core.proofs.ptr.Rows.{times_below, one_below}
 use Rattle.core.proofs.mem.Param.{El, R, el_x, elτ}
@@ -157,3 +158,23 @@ module _ (E : El) {M : Type 1} {𝓤 : Ura M} (𝓛 : Logic 𝓤) (b : ℕ) wher
       qed 𝓛 (‵ (row_lends (R E) b at (p ∷ ps) κ) ∷ []) ∵ fsplit ! $ rewrite ! 0 (λ (k : ℕ). ‵ (place_lends (R E) b k p κ)) same refl $ keep ! (0 ∷ []) $ done !
   place_seen κ (p ∷ ps) (suc i) at here e lt = let e' : here ≡ i * w + (at + w) = omega (arith, suc-mul i w) in
       via 𝓤 ⟦ row_lends (R E) b (at + w) ps κ ⟧ (snd∗ 𝓤 ⟦ place_lends (R E) b at p κ ⟧ ⟦ row_lends (R E) b (at + w) ps κ ⟧) (place_seen κ ps i (at + w) here e' (omega arith))
+
+  -- a lent run of a lent row is lent as a slice is
+  pub each_seen : (κ : Lft) (xs : List (el_x E)) (at : ℕ) → ⟦ row_lends (R E) b at (map Some xs) κ ⟧ ⊢ ⟦ elements_shared (R E) xs b at κ ⟧
+  each_seen κ [] at = id⊢ 𝓤 _
+  each_seen κ (x ∷ xs) at = qed 𝓛 (‵ (row_lends (R E) b at (map Some (x ∷ xs)) κ) ∷ []) ∵ fsplit ! $ move ! (1 ∷ []) $ use1 𝓛 (‵ (elements_shared (R E) xs b (at + w) κ)) (each_seen κ xs (at + w)) $ move ! (1 ∷ 0 ∷ []) $ fjoin ! $ done !
+
+  seen_from : (κ : Lft) (ps : List (Place E)) (i at here : ℕ) → here ≡ i * w + at → ⟦ row_lends (R E) b at ps κ ⟧ ⊢ ⟦ row_lends (R E) b here (drop i ps) κ ⟧
+  seen_from κ ps zero at here e = let same : at ≡ here = omega (arith, zero-mul w) in qed 𝓛 (‵ (row_lends (R E) b at ps κ) ∷ []) ∵ rewrite ! 0 (λ (k : ℕ). ‵ (row_lends (R E) b k ps κ)) same refl $ done !
+  seen_from κ [] (suc i) at here e = id⊢ 𝓤 _
+  seen_from κ (p ∷ ps) (suc i) at here e = let e' : here ≡ i * w + (at + w) = omega (arith, suc-mul i w) in
+      via 𝓤 ⟦ row_lends (R E) b (at + w) ps κ ⟧ (snd∗ 𝓤 ⟦ place_lends (R E) b at p κ ⟧ ⟦ row_lends (R E) b (at + w) ps κ ⟧) (seen_from κ ps i (at + w) here e')
+
+  seen_front : (κ : Lft) (ps : List (Place E)) (n at : ℕ) → ⟦ row_lends (R E) b at ps κ ⟧ ⊢ ⟦ row_lends (R E) b at (take n ps) κ ⟧
+  seen_front κ ps zero at = qed 𝓛 (‵ (row_lends (R E) b at ps κ) ∷ []) ∵ skip ! $ nothing ! $ done !
+  seen_front κ [] (suc n) at = id⊢ 𝓤 _
+  seen_front κ (p ∷ ps) (suc n) at = qed 𝓛 (‵ (row_lends (R E) b at (p ∷ ps) κ) ∷ []) ∵ fsplit ! $ frame ! $ by ! (seen_front κ ps n (at + w))
+
+  pub run_seen : (κ : Lft) (ps : List (Place E)) (i n at here : ℕ) (xs : List (el_x E)) → here ≡ i * w + at → take n (drop i ps) ≡ map Some xs → ⟦ row_lends (R E) b at ps κ ⟧ ⊢ ⟦ elements_shared (R E) xs b here κ ⟧
+  run_seen κ ps i n at here xs e run = qed 𝓛 (‵ (row_lends (R E) b at ps κ) ∷ []) ∵ use1 𝓛 (‵ (row_lends (R E) b here (drop i ps) κ)) (seen_from κ ps i at here e) $
+      use1 𝓛 (‵ (row_lends (R E) b here (take n (drop i ps)) κ)) (seen_front κ (drop i ps) n here) $ rewrite ! 0 (λ (qs : List (Place E)). ‵ (row_lends (R E) b here qs κ)) run refl $ by ! (each_seen κ xs here)

@@ -1,5 +1,5 @@
 -- Which places are filled, and what a list of places becomes when a run of them moves.
-use Rattle.std.specs.Prelude.{◌≡◌, ℕ, ◌+◌, ◌<◌, ◌≤◌, ◌⊎◌, get_or, Bool, true, false, List, map, length, take, drop, replicate, Option, Some, None}
+use Rattle.std.specs.Prelude.{◌≡◌, ℕ, ◌+◌, ◌<◌, ◌≤◌, ◌⊎◌, get_or, List, map, length, take, drop, replicate, Option, Some, None}
 use Rattle.std.specs.List.{splice}
 
 module _ {X : Type 0} where
@@ -22,10 +22,6 @@ module _ {X : Type 0} where
   -- each place from low up to high is empty, but for the n from `from` on
   abbrev pub IsClearBut : List (Option X) → ℕ → ℕ → ℕ → ℕ → Type 0
   IsClearBut cs low high from n = (i : ℕ) → low ≤ i → i < high → (i < from) ⊎ (from + n ≤ i) → place cs i ≡ None
-
--- each flag from low up to high is set
-abbrev pub IsMarked : List Bool → ℕ → ℕ → Type 0
-IsMarked fs low high = (i : ℕ) → low ≤ i → i < high → get_or fs i false ≡ true
 
 -- ys with e at the n indices from `from` on
 abbrev pub blanked : {Y : Type 0} → Y → ℕ → ℕ → List Y → List Y

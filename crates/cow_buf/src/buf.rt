@@ -1,19 +1,22 @@
-ghost use Rattle.std.specs.Prelude.{◌≡◌, ℕ, ◌<◌, ◌≤◌, ◌^◌, length, ◌+◌, ◌++◌, drop, replicate, slice_set, IfOk, Some, None};
+ghost use Rattle.std.specs.Prelude.{◌≡◌, ℕ, ◌<◌, ◌≤◌, ◌^◌, length, ◌+◌, ◌++◌, map, take, drop, replicate, slice_set, IfOk, Some, None};
 ghost use Rattle.std.specs.Borrow.{sem};
-ghost use Rattle.cow_buf.specs.Places.{place, IsFilled, IsClearBut, shifted};
+ghost use Rattle.cow_buf.specs.Places.{place, IsFilled, IsRun, IsClear, IsClearBut, shifted};
 
 use crate::memory::Memory;
-use crate::runs::{move_flags, pour_flags};
 use cow_model::NoMemory;
 use std::alloc::Global;
 use std::marker::Model;
 use std_alloc::room::may_hold;
 
-/// A block of memory with room for a fixed number of values.
+/// One block of memory with room for a fixed number of values: a pointer and a number.
+///
+/// No call but `with_capacity` takes memory. Each is one step, and `shift` and `drain_into` are one move of
+/// memory. A buffer doesn't note which places are filled, so it has no drop: whoever has one takes its values
+/// out and frees it.
 pub struct Buf<T> {
     memory: Memory<T>,
     alloc: Global,
-    flags: Vec<bool>,
+    count: usize,
 }
 
 impl<T> Model for Buf<T> {
@@ -31,8 +34,8 @@ impl<T> Model for Buf<T> {
 impl<T> Buf<T> {
     ghost use Rattle.cow_buf.specs.BufLends.{lends_place};
 
-    /// `n` empty places, in n steps (their flags). Want of memory is also the answer for a block of 2^63
-    /// bytes or more.
+    /// `n` empty places, by one allocation and no pass over them. Answers `NoMemory` only for want of memory,
+    /// which a block of 2^63 bytes or more is too.
     pub fn with_capacity(alloc: Global, n: usize) -> Result<Buf<T>, NoMemory>
         requires { n ≤ 2 ^ 32 }
         ensures { IfOk result (λ b. b ≡ replicate n None) }
@@ -40,25 +43,33 @@ impl<T> Buf<T> {
         if !may_hold::<T>(n) {
             return Err(NoMemory);
         }
-        let flags = match Vec::from_elem(alloc, false, n) {
-            Ok(flags) => flags,
-            Err(_) => return Err(NoMemory),
-        };
         match Memory::allocate(&alloc, n) {
             Ok(memory) => Ok(Buf {
                 memory,
                 alloc,
-                flags,
+                count: n,
             }),
             Err(_) => Err(NoMemory),
         }
+    }
+
+    /// Frees the block, whose places are all empty.
+    pub fn free(self)
+        requires { self ≡ replicate (length self) None }
+    {
+        let Buf {
+            memory,
+            alloc,
+            count,
+        } = self;
+        memory.free(&alloc, count);
     }
 
     /// The number of places, filled or empty.
     pub fn capacity(&self) -> usize
         ensures { result ≡ length self.now }
     {
-        self.flags.len()
+        self.count
     }
 
     /// Fills an empty place.
@@ -68,7 +79,6 @@ impl<T> Buf<T> {
         ensures { self.new ≡ slice_set self.old i (Some x) }
     {
         self.memory.put(i, x);
-        self.flags[i] = true;
     }
 
     /// Empties a filled place, and answers what it held.
@@ -77,7 +87,6 @@ impl<T> Buf<T> {
         ensures value { place self.old i ≡ Some result }
         ensures places { self.new ≡ slice_set self.old i None }
     {
-        self.flags[i] = false;
         self.memory.take(i)
     }
 
@@ -89,6 +98,14 @@ impl<T> Buf<T> {
         self.memory.at(i)
     }
 
+    /// What the `n` places from `from` on hold, which are all filled, as one slice.
+    pub fn run(&self, from: usize, n: usize) -> &[T]
+        requires { IsRun self.now from n }
+        ensures { map Some result.now ≡ take n (drop from self.now) }
+    {
+        self.memory.run(from, n)
+    }
+
     /// What a filled place holds, for writing.
     pub fn at_mut(&mut self, i: usize) -> &mut T
         requires { IsFilled self.old i }
@@ -98,47 +115,28 @@ impl<T> Buf<T> {
         self.memory.at_mut(i)
     }
 
-    /// Moves the `n` places from `from` on to those from `to` on, which may overlap them. Places of the new
-    /// run outside the old one are empty before, and places of the old run outside the new one are empty after.
-    ///
-    /// A run without empty places is one move of memory, else each stretch of filled places is. In either
-    /// case n flags are read and moved.
+    /// Moves the values in the `n` places from `from` on to those from `to` on, which may overlap them. Places
+    /// of the new run outside the old one are empty before, and places of the old run outside the new one are
+    /// empty after.
     pub fn shift(&mut self, from: usize, to: usize, n: usize)
-        requires from { from + n ≤ length self.old }
+        requires run { IsRun self.old from n }
         requires to { to + n ≤ length self.old }
         requires clear { IsClearBut self.old to (to + n) from n }
         ensures { self.new ≡ shifted from to n self.old }
     {
-        self.memory.move_places(&self.flags, from, to, n);
-        move_flags(&mut self.flags, from, to, n);
+        self.memory.move_run(from, to, n);
     }
 
-    /// Moves every place to the same place of `other`, which is empty and at least as long. Each stretch of
-    /// filled places is one copy of memory, and each flag is read and copied.
-    pub fn drain_into(&mut self, other: &mut Buf<T>)
+    /// Moves the values in the first `n` places, which are all there are, to the same places of `other`, which
+    /// is empty and at least as long.
+    pub fn drain_into(&mut self, other: &mut Buf<T>, n: usize)
+        requires run { IsRun self.old 0 n }
+        requires rest { IsClear self.old n (length self.old) }
         requires longer { length self.old ≤ length other.old }
         requires empty { other.old ≡ replicate (length other.old) None }
         ensures left { self.new ≡ replicate (length self.old) None }
         ensures came { other.new ≡ self.old ++ drop (length self.old) other.old }
     {
-        self.memory.pour(&self.flags, &mut other.memory);
-        pour_flags(&mut self.flags, &mut other.flags);
-    }
-}
-
-impl<T: Drop> Drop for Buf<T> {
-    fn drop(self) {
-        let Buf {
-            mut memory,
-            alloc,
-            flags,
-        } = self;
-        let count = flags.len();
-        for i in 0..count {
-            if flags[i] {
-                let _item = memory.take(i);
-            }
-        }
-        memory.free(&alloc, count);
+        self.memory.hand_over(&mut other.memory, 0, n);
     }
 }

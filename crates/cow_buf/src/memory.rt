@@ -1,5 +1,5 @@
 // One block of memory as a row of places, each of which is empty or holds a value.
-ghost use Rattle.std.specs.Prelude.{◌≡◌, ℕ, ◌+◌, ◌<◌, ◌≤◌, min, max, List, Option, Some, None, length, take, drop, replicate, slice_set, IfOk};
+ghost use Rattle.std.specs.Prelude.{◌≡◌, ℕ, ◌+◌, ◌<◌, ◌≤◌, min, max, List, Option, Some, None, length, map, take, drop, replicate, slice_set, IfOk};
 ghost use Rattle.std.specs.List.{splice};
 ghost use Rattle.std.specs.Borrow.{sem};
 ghost use Rattle.std.specs.Vec.Ownership.{FitsInBlock};
@@ -9,7 +9,7 @@ ghost use Rattle.cow_buf.specs.Block.{block_owns, block_lends};
 use std::alloc::{AllocError, Allocator, Global};
 use std::marker::{Model, Send, Sync};
 use std::mem::{align_of, size_of};
-use std::ptr;
+use std::{ptr, slice};
 
 // The owner of one block of the global allocator: of the values in its places, and of the right to free it.
 pub(crate) struct Memory<T> {
@@ -79,6 +79,14 @@ impl<T> Memory<T> {
         unsafe { &*self.start.add(i) }
     }
 
+    // Lends the values of a run.
+    pub(crate) fn run(&self, from: usize, n: usize) -> &[T]
+        requires { IsRun self.now.places from n }
+        ensures { map Some result.now ≡ take n (drop from self.now.places) }
+    {
+        unsafe { slice::from_raw_parts(self.start.add(from), n) }
+    }
+
     // Lends the value of a place for writing.
     pub(crate) fn at_mut(&mut self, i: usize) -> &mut T
         requires { IsFilled self.old.places i }
@@ -107,6 +115,20 @@ impl<T> Memory<T> {
         ensures { self.new.places ≡ shifted from to n self.old.places }
     {
         unsafe { ptr::copy_nonoverlapping(self.start.add(from), self.start.add(to), n) }
+    }
+
+    // One move of memory, wherever the two runs lie.
+    pub(crate) fn move_run(&mut self, from: usize, to: usize, n: usize)
+        requires run { IsRun self.old.places from n }
+        requires room { to + n ≤ length self.old.places }
+        requires clear { IsClearBut self.old.places to (to + n) from n }
+        ensures { self.new.places ≡ shifted from to n self.old.places }
+    {
+        if from.abs_diff(to) < n {
+            self.slide(from, to, n);
+        } else {
+            self.transfer(from, to, n);
+        }
     }
 
     // One copy of memory, where the run goes to the same places of another block.

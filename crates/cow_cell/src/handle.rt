@@ -1,5 +1,5 @@
-//! The calls on handles. `get` reads through the pointer and `settle` has no code; all others are safe
-//! code over the steps `retain`, `release` and `unique`.
+//! The calls on handles, but for `only`. `get` reads through the pointer and `settle` has no code; all others
+//! are safe code over the steps `retain`, `release` and `unique`.
 ghost use Rattle.std.specs.Prelude.{◌≡◌, ℕ, ◌+◌, ◌-◌, ◌^◌, ◌<◌, ◌≤◌, true, false, IfSome, IsSome, IfNone, IfOk, IfErr, OnOk, OnErr};
 ghost use types.Logic.{sem};
 ghost use Rattle.cow_model.specs.Purse.{less, more};
@@ -72,7 +72,7 @@ impl<T, Q: Stock> Counted<T, Q> {
         twin
     }
 
-    /// The value of the handle. Only what `sole` of this handle lends can change it.
+    /// The value of the handle. Only what `sole` and `only` of this handle lend can change it.
     ///
     /// No atomic step: one read of a pointer. Takes no memory.
     pub fn get(&self) -> &T

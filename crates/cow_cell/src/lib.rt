@@ -4,7 +4,8 @@
 //! `Counted<T, Q>` is one handle of a block that keeps a count and a `T`, as Rust's `Arc` is. In
 //! Swift's words `share` is a strong retain, `end` and the drop are a strong release, and `sole` is
 //! `isKnownUniquelyReferenced`: it lends the value for writing where no other handle is live. Every
-//! copy-on-write collection stands on that one call.
+//! copy-on-write collection stands on that one call. Where its answer is known, `only` lends the value
+//! and asks nothing.
 //!
 //! # The invariant
 //!
@@ -20,7 +21,7 @@
 //!
 //! # What the layer above may use
 //!
-//! The contracts in `handle.rt` and `holder.rt`, and the words of `specs/Words.antt`, `Opens.antt` and
+//! The contracts in `handle.rt` and `holder.rt`, that of `only`, and the words of `specs/Words.antt`, `Opens.antt` and
 //! `Follows.antt`. It never opens a block. Whoever starts a stock enters a function that is generic
 //! over `Q: Stock` with an `Opening`, and puts in `Brand`.
 //!
@@ -30,7 +31,7 @@
 //! | `share`, `share_settled` | one fetch_add | none |
 //! | `sole` | one load | none |
 //! | `end`, drop | one fetch_sub | none; the last one frees the block |
-//! | `get`, `settle`, all of `Holder` | none | none |
+//! | `get`, `only`, `settle`, all of `Holder` | none | none |
 //!
 //! Each step is sequentially consistent and stands in one small function that is proved by hand:
 //! `retain`, `release`, `unique`. No call waits: a lock round the block would take the handle `Wait`,

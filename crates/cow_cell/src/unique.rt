@@ -1,7 +1,8 @@
-//! The step that tests whether a handle is the only one of its block.
+//! The two ways to the value for writing: the step that tests whether a handle is the only one of its
+//! block, and, where that is known, one read of the pointer.
 ghost use Rattle.std.specs.Prelude.{◌≡◌, ℕ, ◌+◌, ◌-◌, ◌^◌, ◌<◌, ◌≤◌, Bool, true, false, IfSome, IsSome, IsNone};
 ghost use types.Logic.{sem};
-ghost use Rattle.cow_cell.specs.Follows.{follows_unique};
+ghost use Rattle.cow_cell.specs.Follows.{follows_unique, follows_only};
 
 use crate::counted::Counted;
 use crate::units::{Stock, Units};
@@ -27,5 +28,18 @@ impl<T, Q: Stock> Counted<T, Q> {
             return None;
         }
         unsafe { Some(&mut (*at).value) }
+    }
+
+    /// The value, for writing, of a handle that is alone: what `sole` lends, where its answer is known. The
+    /// handle stays alone, and shows what the reference holds as it ends.
+    ///
+    /// No atomic step and no test: one read of a pointer, as Rust's `Arc::get_mut_unchecked`. Takes no memory.
+    pub fn only(&mut self) -> &mut T
+        requires { self.old.alone ≡ true }
+        ensures* writes_back { sem 𝓛 (follows_only T.row Q.row Q.Stock self.entry result) }
+        ensures value { result.now ≡ self.old.value }
+    {
+        let at = self.at;
+        unsafe { &mut (*at).value }
     }
 }

@@ -3,6 +3,7 @@ ghost use Rattle.cow_model.specs.Purse.{less, noted, unit_if};
 ghost use Rattle.cow_model.specs.Hash.{literal_hash};
 ghost use Rattle.cow_model.specs.Literals.{is_text, FitsText};
 ghost use Rattle.cow_item.specs.Atoms.{plain_of_atom, IsSettledAtom};
+ghost use Rattle.std.proofs.Common.{rules};
 
 use crate::item::{Item, Key};
 use crate::text::Text;
@@ -53,10 +54,10 @@ impl<Q: Stock> Item<Q> for Atom<Q> {
 
     ghost is_counted = { is_text };
 
-    fn copy(&self, h: &mut Holder<Q>) -> Self {
+    fn twin(&self, h: &mut Holder<Q>) -> Self {
         match self {
-            Atom::Int(x) => Atom::Int(x.copy(h)),
-            Atom::Text(t) => Atom::Text(t.copy(h)),
+            Atom::Int(x) => Atom::Int(*x),
+            Atom::Text(t) => Atom::Text(t.twin(h)),
         }
     }
 
@@ -73,6 +74,8 @@ impl<Q: Stock> Item<Q> for Atom<Q> {
             Atom::Text(t) => t.end(h),
         }
     }
+
+    ghost weighs_little = { Prim.search rules };
 }
 
 impl<Q: Stock> Key<Q> for Atom<Q> {

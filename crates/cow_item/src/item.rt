@@ -1,4 +1,4 @@
-ghost use Rattle.std.specs.Prelude.{◌≡◌, ℕ, ◌≤◌, ◌↔◌, Bool, IsTrue};
+ghost use Rattle.std.specs.Prelude.{◌≡◌, ℕ, ◌*◌, ◌≤◌, ◌↔◌, Bool, IsTrue};
 ghost use Rattle.cow_model.specs.Purse.{less, more, noted, unit_if};
 ghost use Rattle.cow_model.specs.Order.{literal_cmp};
 ghost use Rattle.cow_model.specs.declared.plain.Literal.{Literal as Plain};
@@ -22,22 +22,39 @@ pub trait Item<Q: Stock>: Sized + Drop {
     /// Whether an item of this plain value holds a handle, which is one unit. Else it has none.
     ghost is_counted: { Plain → Bool };
 
-    /// A second item of the same plain value. `copied` rises by WEIGHT, and spare falls by the item's units.
+    /// A second item of the same plain value, which nobody has counted: `copied` stays, and spare falls by the
+    /// item's units. Whoever copies a run of items by it counts the run. At most one atomic fetch_add.
+    fn twin(&self, h: &mut Holder<Q>) -> Self
+        requires settled { IsSettled self.now }
+        requires spare { 1 ≤ h.old.spare }
+        ensures same { plain result ≡ plain self.now }
+        ensures settled { IsSettled result }
+        ensures paid { h.new ≡ less (unit_if (is_counted (plain self.now))) h.old };
+
+    /// The same, counted: `copied` rises by WEIGHT.
     fn copy(&self, h: &mut Holder<Q>) -> Self
         requires settled { IsSettled self.now }
         requires spare { 1 ≤ h.old.spare }
         ensures same { plain result ≡ plain self.now }
         ensures settled { IsSettled result }
-        ensures paid { h.new ≡ noted WEIGHT (less (unit_if (is_counted (plain self.now))) h.old) };
+        ensures paid { h.new ≡ noted WEIGHT (less (unit_if (is_counted (plain self.now))) h.old) }
+    {
+        h.note(Self::WEIGHT);
+        self.twin(h)
+    }
 
     /// Gives up the knowledge that a handle in it is alone, so that it can be copied. Nothing at run time.
     fn settle(&mut self)
         ensures same { plain self.new ≡ plain self.old }
         ensures settled { IsSettled self.new };
 
-    /// Ends the item, and gives its units back to the holder. Dropping it gives none back.
+    /// Ends the item, and gives its units back to the holder. Dropping it gives none back. At most one atomic
+    /// fetch_sub.
     fn end(self, h: &mut Holder<Q>)
         ensures { h.new ≡ more (unit_if (is_counted (plain self))) h.old };
+
+    /// An item counts as one copy at most.
+    ghost weighs_little: { WEIGHT ≤ 1 };
 }
 
 /// An item that can be looked up. No call takes memory, and each is a function of plain values.

@@ -2,6 +2,7 @@
 ghost use Rattle.std.specs.Prelude.{pos, false, ⊤};
 ghost use Rattle.cow_model.specs.Hash.{literal_hash};
 ghost use Rattle.cow_model.specs.declared.plain.Literal.TheVariants.{Int};
+ghost use Rattle.std.proofs.Common.{rules};
 
 use crate::hash;
 use crate::item::{Item, Key};
@@ -19,14 +20,15 @@ impl<Q: Stock> Item<Q> for i64 {
 
     ghost is_counted = { λ _. false };
 
-    fn copy(&self, h: &mut Holder<Q>) -> Self {
-        h.note(1);
+    fn twin(&self, _h: &mut Holder<Q>) -> Self {
         *self
     }
 
     fn settle(&mut self) {}
 
     fn end(self, _h: &mut Holder<Q>) {}
+
+    ghost weighs_little = { Prim.search rules };
 }
 
 impl<Q: Stock> Key<Q> for i64 {
@@ -56,11 +58,13 @@ impl<Q: Stock> Item<Q> for () {
 
     ghost is_counted = { λ _. false };
 
-    fn copy(&self, _h: &mut Holder<Q>) -> Self {}
+    fn twin(&self, _h: &mut Holder<Q>) -> Self {}
 
     fn settle(&mut self) {}
 
     fn end(self, _h: &mut Holder<Q>) {}
+
+    ghost weighs_little = { Prim.search rules };
 }
 
 impl<Q: Stock> Key<Q> for () {

@@ -2,6 +2,7 @@ ghost use Rattle.std.specs.Prelude.{◌≡◌, ◌≤◌, true, false};
 ghost use Rattle.cow_cell.specs.Opens.{Opens};
 ghost use Rattle.cow_item.specs.Parts.{plain_of_part, part_hash};
 ghost use Rattle.cow_model.specs.declared.plain.Literal.TheVariants.{Int};
+ghost use Rattle.std.proofs.Common.{rules};
 
 use crate::{Atom, Item, Key, Text};
 use cow_cell::{Counted, Holder, Opening, Stock};
@@ -35,11 +36,11 @@ impl<Q: Stock> Item<Q> for Part<Q> {
 
     ghost is_counted = { λ _. true };
 
-    fn copy(&self, h: &mut Holder<Q>) -> Self {
+    fn twin(&self, h: &mut Holder<Q>) -> Self {
         Part {
             size: self.size,
             colour: self.colour,
-            name: self.name.copy(h),
+            name: self.name.twin(h),
         }
     }
 
@@ -55,6 +56,8 @@ impl<Q: Stock> Item<Q> for Part<Q> {
         } = self;
         name.end(h);
     }
+
+    ghost weighs_little = { Prim.search rules };
 }
 
 impl<Q: Stock> Key<Q> for Part<Q> {
@@ -247,8 +250,7 @@ impl<Q: Stock> Item<Q> for Shared<Q> {
 
     ghost is_counted = { λ _. true };
 
-    fn copy(&self, h: &mut Holder<Q>) -> Self {
-        h.note(1);
+    fn twin(&self, h: &mut Holder<Q>) -> Self {
         Shared {
             cell: self.cell.share_settled(h),
         }
@@ -262,6 +264,8 @@ impl<Q: Stock> Item<Q> for Shared<Q> {
         let Shared { cell } = self;
         let _last = cell.end(h);
     }
+
+    ghost weighs_little = { Prim.search rules };
 }
 
 /// The drops counted, and what the second item shows, once the first of two that share a block has ended; the

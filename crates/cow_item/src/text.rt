@@ -2,6 +2,7 @@ ghost use Rattle.std.specs.Prelude.{◌≡◌, ◌≤◌, length, IfOk, OnOk, On
 ghost use Rattle.cow_model.specs.Purse.{less};
 ghost use Rattle.cow_model.specs.Hash.{literal_hash};
 ghost use Rattle.cow_model.specs.declared.plain.Literal.TheVariants.{Text as Chars};
+ghost use Rattle.std.proofs.Common.{rules};
 
 use crate::hash;
 use crate::item::{Item, Key};
@@ -69,8 +70,7 @@ impl<Q: Stock> Item<Q> for Text<Q> {
 
     ghost is_counted = { λ _. true };
 
-    fn copy(&self, h: &mut Holder<Q>) -> Self {
-        h.note(1);
+    fn twin(&self, h: &mut Holder<Q>) -> Self {
         Text {
             cell: self.cell.share_settled(h),
         }
@@ -84,6 +84,8 @@ impl<Q: Stock> Item<Q> for Text<Q> {
         let Text { cell } = self;
         let _bytes = cell.end(h);
     }
+
+    ghost weighs_little = { Prim.search rules };
 }
 
 impl<Q: Stock> Key<Q> for Text<Q> {

@@ -2,3 +2,4 @@ pub mod Gaps
 pub mod Packed
 pub mod Runs
 pub mod Splices
+pub mod Whole

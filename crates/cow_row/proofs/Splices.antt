@@ -1,5 +1,6 @@
 -- The places of a row while a run of its items is replaced.
 use Rattle.std.proofs.Common.{◌≡◌, ℕ, zero, suc, ◌+◌, ◌-◌, ◌<◌, ◌≤◌, ◌⊎◌, inl, inr, List, [], ◌∷◌, ◌++◌, map, length, set, replicate, take, drop, get_or, All, Option, Some, None, refl, sym, ap, ◌∙◌, arith, length-append, append_assoc, add-one}
+use Rattle.std.proofs.lemmas.Grind.{common_steps}
 use Rattle.std.specs.List.{splice}
 use Rattle.std.proofs.lemmas.List.{length-map, length-replicate, length-take-le, length-drop, drop_more, get_or_at, set_at, get_or-append_right, get_or_append_left, get_or-take, get_or-drop, take_at, drop_at, take-append-le, take-map, replicate_more}
 use Rattle.std.proofs.lemmas.List.Elements.{All-append, All-take, All-drop}
@@ -66,6 +67,9 @@ module _ {X : Type 0} where
   place-none (suc m) (suc k) = place-none m k
 
   -- past the first items, the places of a gap and those behind the last items are empty
+  pub length-gapped : (f : ℕ) (xs : List X) (g : ℕ) (ys : List X) (m : ℕ) → length (gapped f xs g ys m) ≡ f + length xs + g + length ys + m
+  length-gapped f xs g ys m = grind (arith, common_steps)
+
   pub gap-empty : (f : ℕ) (xs : List X) (g : ℕ) (ys : List X) (m i : ℕ) → f + length xs ≤ i → (i < f + length xs + g) ⊎ (f + length xs + g + length ys ≤ i) → place (gapped f xs g ys m) i ≡ None
   gap-empty f xs g ys m i low (inl h) =
       let k = i - (f + length xs) in
@@ -106,7 +110,7 @@ module _ {X : Type 0} where
   pub is_run : (cs : List (Option X)) (f n i c : ℕ) → IsPacked cs f n → i + c ≤ n → IsRun cs (f + i) c
   is_run cs f n i c p h = (omega (arith, h, p.fits), (take c (drop i (somes cs)), run-of-row cs f n i c p h))
 
-  somes-some : (ys : List X) → somes (map Some ys) ≡ ys
+  pub somes-some : (ys : List X) → somes (map Some ys) ≡ ys
   somes-some [] = refl
   somes-some (y ∷ ys) = ap (λ l. y ∷ l) (somes-some ys)
 

@@ -2,16 +2,18 @@
 //!
 //! - `Row<T>`: items side by side in a `Buf`, with empty places before and behind them. Contracts see
 //!   the items, the number of empty places before them, and the capacity from the first item's place on.
-//!   Its invariant: these are the buffer's filled places, and there are no others.
+//!   Its invariant: these are the buffer's filled places, and there are no others. So the row knows by two
+//!   numbers what its drop has to take out.
 //! - `storage`: the bodies that changes share, each on a `Counted<Row<T>>`. `prepare` makes a handle
-//!   alone with room: it asks `sole`, grows an unshared row in place by moving its items, and else goes by
-//!   `renew`, which takes all memory of the new storage first, copies the items, which can't be refused,
-//!   and ends the old handle last. After an `Ok` of `prepare` the handle is known to be alone, so the
-//!   collection's `sole` answers the row to write to.
+//!   alone with room: where it is alone with room already, that is one look at the handle. Else it grows an
+//!   unshared row by moving its items, or goes by `renew`, which takes all memory of the new storage first,
+//!   copies the items, which can't be refused, and ends the old handle last. After an `Ok` of `prepare` the
+//!   handle is known to be alone, so the collection writes by `only`, which looks at nothing.
 //!
 //! The layer above names no buffer and no place: it changes a row by list calls, each of which is one
 //! step or one move of memory, but for `reverse` and for `replace_run`, which takes one move and a step
-//! for each item that comes or goes.
+//! for each item that comes or goes. A run of items is read as one slice, copied by one loop that writes
+//! items and nothing else, with one count of its copies, and ended by one loop.
 //!
 //! `Row::with_capacity` and `renew` may always answer want of memory, so a body that only does so is proved.
 //! The tests of the collections show that both succeed.

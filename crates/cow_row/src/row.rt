@@ -1,18 +1,20 @@
-ghost use Rattle.std.specs.Prelude.{◌≡◌, ◌+◌, ◌-◌, ◌<◌, ◌≤◌, ◌^◌, [], ◌∷◌, ◌++◌, length, map, count_by, All, IsPermutation, slice_get, slice_set, take, drop, insert, remove, swap, reverse, IfOk, IfNone, IfSome, OnOk, OnErr, IsOk, Some, None, max};
+ghost use Rattle.std.specs.Prelude.{◌≡◌, ◌+◌, ◌-◌, ◌*◌, ◌<◌, ◌≤◌, ◌^◌, [], ◌∷◌, ◌++◌, length, map, count_by, All, IsPermutation, slice_get, slice_set, take, drop, insert, remove, swap, reverse, IfOk, IfNone, IfSome, OnOk, OnErr, IsOk, IsTrue, ◌↔◌, Some, None, max};
 ghost use Rattle.std.specs.List.{splice};
 ghost use Rattle.cow_buf.specs.Places.{IsRun, IsClear, blanked};
-ghost use Rattle.cow_model.specs.Purse.{more};
-ghost use Rattle.cow_row.specs.Places.{somes};
+ghost use Rattle.cow_model.specs.Purse.{more, noted};
+ghost use Rattle.cow_row.specs.Places.{somes, IsPacked};
 
+use core::mem::replace_with;
 use cow_buf::Buf;
 use cow_cell::{Holder, Stock};
 use cow_item::Item;
 use cow_model::NoMemory;
 use std::alloc::Global;
 use std::marker::Model;
+use std::mem;
 
-/// Items side by side in a buffer, with empty places before and behind them.
-#[derive(Drop)]
+/// Items side by side in a buffer, with empty places before and behind them. Where no cost is said, a call is
+/// one step, and where no memory is spoken of, it takes none. Dropping a row drops each item.
 pub struct Row<T> {
     buf: Buf<T>,
     /// How many places before the first item are empty.
@@ -30,6 +32,20 @@ impl<T> Model for Row<T> {
     ghost view = { λ r. record { items = somes r.buf; front = r.front; capacity = length r.buf - r.front } };
 
     ghost invariant = { λ r. IsPacked r.buf r.front r.len };
+}
+
+impl<T: Drop> Drop for Row<T> {
+    fn drop(self) {
+        let Row {
+            mut buf,
+            front,
+            len,
+        } = self;
+        for i in 0..len {
+            let _item = buf.take(front + i);
+        }
+        buf.free();
+    }
 }
 
 impl<T: Drop> Row<T> {
@@ -54,6 +70,13 @@ impl<T: Drop> Row<T> {
         self.len
     }
 
+    /// Whether there is no item.
+    pub fn is_empty(&self) -> bool
+        ensures { IsTrue result ↔ (self.now.items ≡ []) }
+    {
+        self.len == 0
+    }
+
     /// How many items fit from the first one's place on.
     pub fn capacity(&self) -> usize
         ensures value { result ≡ self.now.capacity }
@@ -70,7 +93,22 @@ impl<T: Drop> Row<T> {
         self.buf.at(self.front + i)
     }
 
-    /// `x` stands last. One step.
+    /// The items, in order.
+    pub fn as_slice(&self) -> &[T]
+        ensures { result.now ≡ self.now.items }
+    {
+        self.buf.run(self.front, self.len)
+    }
+
+    /// The `count` items from `start` on, in order.
+    pub fn run(&self, start: usize, count: usize) -> &[T]
+        requires { start + count ≤ length self.now.items }
+        ensures { result.now ≡ take count (drop start self.now.items) }
+    {
+        self.buf.run(self.front + start, count)
+    }
+
+    /// `x` stands last.
     pub fn push(&mut self, x: T)
         requires { length self.old.items < self.old.capacity }
         ensures { self.new ≡ record self.old { items = self.old.items ++ x ∷ [] } }
@@ -79,7 +117,7 @@ impl<T: Drop> Row<T> {
         self.len += 1;
     }
 
-    /// `x` stands in the place of item `i`, which is handed out. One step.
+    /// `x` stands in the place of item `i`, which is handed out.
     pub fn replace(&mut self, i: usize, x: T) -> T
         requires { i < length self.old.items }
         ensures value { slice_get self.old.items i ≡ Some result }
@@ -91,7 +129,7 @@ impl<T: Drop> Row<T> {
         old
     }
 
-    /// The last item, taken out. One step.
+    /// The last item, taken out.
     pub fn pop(&mut self) -> Option<T>
         ensures empty { IfNone result (self.old.items ≡ []) }
         ensures kept { IfNone result (self.new ≡ self.old) }
@@ -106,7 +144,7 @@ impl<T: Drop> Row<T> {
         Some(self.buf.take(self.front + self.len))
     }
 
-    /// The first item, taken out. One step: its place is empty from then on.
+    /// The first item, taken out. Its place is empty from then on.
     pub fn pop_front(&mut self) -> Option<T>
         ensures empty { IfNone result (self.old.items ≡ []) }
         ensures kept { IfNone result (self.new ≡ self.old) }
@@ -123,8 +161,7 @@ impl<T: Drop> Row<T> {
         Some(first)
     }
 
-    /// Item `i`, taken out; the first item stands in its place. One step, where `remove` moves all
-    /// that follow.
+    /// Item `i`, taken out; the first item stands in its place. `remove` moves all that follow instead.
     pub fn swap_remove_front(&mut self, i: usize) -> T
         requires { i < length self.old.items }
         ensures value { slice_get self.old.items i ≡ Some result }
@@ -143,7 +180,7 @@ impl<T: Drop> Row<T> {
         self.replace(i - 1, first)
     }
 
-    /// Items `i` and `j` in each other's place. A fixed number of steps.
+    /// Items `i` and `j` in each other's place.
     pub fn swap(&mut self, i: usize, j: usize)
         requires first { i < length self.old.items }
         requires second { j < length self.old.items }
@@ -158,7 +195,7 @@ impl<T: Drop> Row<T> {
         self.buf.put(self.front + j, x);
     }
 
-    /// The items in the opposite order.
+    /// The items in the opposite order. Linear in their number.
     pub fn reverse(&mut self)
         ensures { self.new ≡ record self.old { items = reverse self.old.items } }
     {
@@ -169,7 +206,9 @@ impl<T: Drop> Row<T> {
     }
 
     /// Room for `n` items in all. Moves the items and copies none; where it takes memory, it takes it
-    /// for `n` items.
+    /// for `n` items, once.
+    #[cold]
+    #[inline(never)]
     pub fn reserve(&mut self, alloc: Global, n: usize) -> Result<(), NoMemory>
         requires { n ≤ 2 ^ 32 }
         ensures items { self.new.items ≡ self.old.items }
@@ -188,8 +227,9 @@ impl<T: Drop> Row<T> {
         }
         let mut wider = Buf::with_capacity(alloc, n)?;
         self.to_front();
-        self.buf.drain_into(&mut wider);
-        self.buf = wider;
+        let len = self.len;
+        self.buf.drain_into(&mut wider, len);
+        mem::replace(&mut self.buf, wider).free();
         Ok(())
     }
 
@@ -227,6 +267,86 @@ impl<T: Drop> Row<T> {
     }
 }
 
+/// Copies of the `count` items of `from` from `start` on stand last in `to`. One pass over them, and one count
+/// of the copies. Takes no memory.
+pub fn copy_run<T: Item<Q>, Q: Stock>(
+    from: &Row<T>,
+    start: usize,
+    count: usize,
+    to: &mut Row<T>,
+    h: &mut Holder<Q>,
+)
+    requires within { start + count ≤ length from.now.items }
+    requires small { length from.now.items ≤ 2 ^ 31 }
+    requires from_settled { All T.IsSettled from.now.items }
+    requires to_settled { All T.IsSettled to.old.items }
+    requires room { length to.old.items + count ≤ to.old.capacity }
+    requires spare { count ≤ h.old.spare }
+    ensures same { map T.plain to.new.items ≡ map T.plain to.old.items ++ map T.plain (take count (drop start from.now.items)) }
+    ensures count { length to.new.items ≡ length to.old.items + count }
+    ensures settled { All T.IsSettled to.new.items }
+    ensures capacity { to.new.capacity ≡ to.old.capacity }
+    ensures front { to.new.front ≡ to.old.front }
+    ensures units { h.new.spare + count_by T.is_counted (map T.plain (take count (drop start from.now.items))) ≡ h.old.spare }
+    ensures copied { h.new.copied ≡ (noted (T.WEIGHT * count) h.old).copied }
+{
+    let (front, len) = (to.front, to.len);
+    let run = (from.run(start, count), front, len, h.split(count as u64));
+    let rest = replace_with(&mut to.buf, run, with_twins);
+    h.join(rest);
+    h.note(T::WEIGHT * count as u64);
+    to.len = len + count;
+}
+
+/// Puts twins of a slice's items into the places behind the `len` items that stand behind `front` empty places,
+/// and answers the buffer and the holder. It has both by value, so that the loop keeps the buffer's pointer and
+/// the holder's numbers in registers, and writes items and nothing else.
+fn with_twins<T: Item<Q>, Q: Stock>(
+    to: Buf<T>,
+    run: (&[T], usize, usize, Holder<Q>),
+) -> (Buf<T>, Holder<Q>)
+    requires small { length run.0.now ≤ 2 ^ 31 }
+    requires from_settled { All T.IsSettled run.0.now }
+    requires packed { IsPacked to run.1 run.2 }
+    requires to_settled { All T.IsSettled (somes to) }
+    requires room { run.1 + run.2 + length run.0.now ≤ length to }
+    requires spare { length run.0.now ≤ run.3.spare }
+    ensures packed { IsPacked result.0 run.entry.1 (run.entry.2 + length run.entry.0.now) }
+    ensures long { length result.0 ≡ length to }
+    ensures same { map T.plain (somes result.0) ≡ map T.plain (somes to) ++ map T.plain run.entry.0.now }
+    ensures settled { All T.IsSettled (somes result.0) }
+    ensures units { result.1.spare + count_by T.is_counted (map T.plain run.entry.0.now) ≡ run.entry.3.spare }
+    ensures copied { result.1.copied ≡ run.entry.3.copied }
+{
+    let (from, front, len, h) = run;
+    let (mut to, mut h) = (to, h);
+    let mut n = len;
+    for i in 0..from.len() {
+        to.put(front + n, item(from, i).twin(&mut h));
+        n += 1;
+    }
+    (to, h)
+}
+
+/// Item `i` of a slice.
+fn item<T>(from: &[T], i: usize) -> &T
+    requires { i < length from.now }
+    ensures { slice_get from.now i ≡ Some result.now }
+{
+    &from[i]
+}
+
+/// Ends each item, in one pass; the empty row keeps its places. Takes no memory.
+pub fn end_items<T: Item<Q>, Q: Stock>(row: &mut Row<T>, h: &mut Holder<Q>)
+    ensures empty { row.new ≡ record row.old { items = [] } }
+    ensures paid { h.new ≡ more (count_by T.is_counted (map T.plain row.old.items)) h.old }
+{
+    let front = row.front;
+    let len = row.len;
+    end_places(&mut row.buf, front, len, h);
+    row.len = 0;
+}
+
 /// The items of `items`, settled, stand in the place of the `count` items from `start` on, which end.
 /// What stands behind moves once, by one move of memory. Takes no memory.
 pub fn replace_run<T: Item<Q>, Q: Stock>(
@@ -253,7 +373,7 @@ pub fn replace_run<T: Item<Q>, Q: Stock>(
     end_places(&mut row.buf, place, count, h);
     row.buf
         .shift(place + count, place + added, row.len - start - count);
-    fill(&mut row.buf, place, items);
+    replace_with(&mut row.buf, (place, items), filled);
     row.len = row.len - count + added;
 }
 
@@ -280,16 +400,19 @@ fn end_places<T: Item<Q>, Q: Stock>(buf: &mut Buf<T>, from: usize, count: usize,
     }
 }
 
-/// Puts the items into the empty places from `from` on.
-fn fill<T: Drop>(buf: &mut Buf<T>, from: usize, items: Vec<T>)
-    requires within { from + length items.items ≤ length buf.old }
-    requires empty { IsClear buf.old from (from + length items.items) }
-    requires small { from + length items.items ≤ 2 ^ 32 }
-    ensures { buf.new ≡ splice buf.old from (from + length items.items) (map Some items.items) }
+/// Puts the items into the empty places from `run.0` on. The buffer is had by value, as in `with_twins`.
+fn filled<T: Drop>(buf: Buf<T>, run: (usize, Vec<T>)) -> (Buf<T>, ())
+    requires within { run.0 + length run.1.items ≤ length buf }
+    requires empty { IsClear buf run.0 (run.0 + length run.1.items) }
+    requires small { run.0 + length run.1.items ≤ 2 ^ 32 }
+    ensures { result.0 ≡ splice buf run.0 (run.0 + length run.1.items) (map Some run.1.items) }
 {
+    let (from, items) = run;
+    let mut buf = buf;
     let mut at = from;
     for x in items {
         buf.put(at, x);
         at += 1;
     }
+    (buf, ())
 }

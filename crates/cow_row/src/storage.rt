@@ -1,74 +1,20 @@
-ghost use Rattle.std.specs.Prelude.{◌≡◌, ℕ, ◌+◌, ◌-◌, ◌*◌, ◌<◌, ◌≤◌, ◌^◌, List, [], ◌∷◌, ◌++◌, length, map, take, drop, count_by, max, OnOk, OnErr, IfOk, IsOk, All, ◌⊎◌, true, false, if◌then◌else◌};
+ghost use Rattle.std.specs.Prelude.{◌≡◌, ℕ, ◌+◌, ◌-◌, ◌*◌, ◌<◌, ◌≤◌, ◌^◌, List, [], ◌∷◌, ◌++◌, length, map, take, drop, count_by, max, OnOk, OnErr, IfOk, IsOk, IsTrue, All, ◌⊎◌, true, false, if◌then◌else◌};
 ghost use Rattle.cow_model.specs.Purse.{Moves, less, more, unit_if};
 ghost use Rattle.cow_row.specs.RowView.{IsSound};
 ghost use Rattle.cow_model.specs.Flat.{copies};
 
 use crate::row::Row;
+pub use crate::row::{copy_run, end_items};
 use cow_cell::{Counted, Holder, Stock};
 use cow_item::Item;
 use cow_model::NoMemory;
 use std::alloc::Global;
 use std::mem;
 
-/// Copies of the `count` items of `from` from `start` on stand last in `to`. Takes no memory.
-pub fn copy_run<T: Item<Q>, Q: Stock>(
-    from: &Row<T>,
-    start: usize,
-    count: usize,
-    to: &mut Row<T>,
-    h: &mut Holder<Q>,
-)
-    requires within { start + count ≤ length from.now.items }
-    requires small { length from.now.items ≤ 2 ^ 31 }
-    requires from_settled { All T.IsSettled from.now.items }
-    requires to_settled { All T.IsSettled to.old.items }
-    requires room { length to.old.items + count ≤ to.old.capacity }
-    requires spare { count ≤ h.old.spare }
-    ensures same { map T.plain to.new.items ≡ map T.plain to.old.items ++ map T.plain (take count (drop start from.now.items)) }
-    ensures count { length to.new.items ≡ length to.old.items + count }
-    ensures settled { All T.IsSettled to.new.items }
-    ensures capacity { to.new.capacity ≡ to.old.capacity }
-    ensures front { to.new.front ≡ to.old.front }
-    ensures units { h.new.spare + count_by T.is_counted (map T.plain (take count (drop start from.now.items))) ≡ h.old.spare }
-    ensures copied { h.new.copied ≤ h.old.copied + T.WEIGHT * count }
-    ensures kept { h.old.copied ≤ h.new.copied }
-{
-    for i in 0..count {
-        let x = from.get(start + i).copy(h);
-        to.push(x);
-    }
-}
-
-/// The items, settled, stand last in `to`. Takes no memory.
-pub fn take_items<T: Item<Q>, Q: Stock>(items: Vec<T>, to: &mut Row<T>)
-    requires to_settled { All T.IsSettled to.old.items }
-    requires room { length to.old.items + length items.items ≤ to.old.capacity }
-    ensures same { map T.plain to.new.items ≡ map T.plain to.old.items ++ map T.plain items.items }
-    ensures count { length to.new.items ≡ length to.old.items + length items.items }
-    ensures settled { All T.IsSettled to.new.items }
-    ensures capacity { to.new.capacity ≡ to.old.capacity }
-    ensures front { to.new.front ≡ to.old.front }
-{
-    for x in items {
-        let mut x = x;
-        x.settle();
-        to.push(x);
-    }
-}
-
-/// Ends each item; the empty row keeps its places. Takes no memory.
-pub fn end_items<T: Item<Q>, Q: Stock>(row: &mut Row<T>, h: &mut Holder<Q>)
-    ensures empty { row.new ≡ record row.old { items = [] } }
-    ensures paid { h.new ≡ more (count_by T.is_counted (map T.plain row.old.items)) h.old }
-{
-    while let Some(x) = row.pop() {
-        x.end(h);
-    }
-}
-
-/// Ends the handle, and its items where it was the last one.
+/// Ends the handle, and its items where it was the last one. Takes no memory.
 pub fn end_cell<T: Item<Q>, Q: Stock>(cell: Counted<Row<T>, Q>, h: &mut Holder<Q>)
     ensures moved { Moves (count_by T.is_counted (map T.plain cell.value.items)) 0 (more 1 h.old) h.new }
+    ensures exact { cell.alone ≡ true → h.new ≡ more (count_by T.is_counted (map T.plain cell.value.items)) (more 1 h.old) }
     ensures never_less { h.old.spare + 1 ≤ h.new.spare }
 {
     if let Some(mut row) = cell.end(h) {
@@ -95,7 +41,9 @@ pub fn grown(capacity: usize, wanted: usize) -> usize
 
 /// Puts a new storage in place of one that others hold too: of copies of the `count` items from
 /// `start` on, at a capacity. All its memory is taken first, then the items are copied, which can't be
-/// refused, and last the old handle is ended.
+/// refused, and last the old handle is ended. Linear in `count`.
+#[cold]
+#[inline(never)]
 pub fn renew<T: Item<Q>, Q: Stock>(
     cell: &mut Counted<Row<T>, Q>,
     start: usize,
@@ -123,10 +71,7 @@ pub fn renew<T: Item<Q>, Q: Stock>(
         Ok(fresh) => fresh,
         Err((refused, _row)) => return Err(refused),
     };
-    match fresh.sole(h) {
-        Some(to) => copy_run(cell.get(), start, count, to, h),
-        None => unreachable!(),
-    }
+    copy_run(cell.get(), start, count, fresh.only(), h);
     let old = mem::replace(cell, fresh);
     end_cell(old, h);
     Ok(())
@@ -134,7 +79,8 @@ pub fn renew<T: Item<Q>, Q: Stock>(
 
 /// Makes the handle alone, with room for `extra` more items behind the `count` from `start` on, and
 /// answers where these begin then. An unshared storage stays, with all its items; one that others
-/// hold too is renewed from the run alone.
+/// hold too is renewed from the run alone. One step where there is nothing to do: one look at the handle.
+#[inline]
 pub fn prepare_run<T: Item<Q>, Q: Stock>(
     cell: &mut Counted<Row<T>, Q>,
     start: usize,
@@ -155,9 +101,10 @@ pub fn prepare_run<T: Item<Q>, Q: Stock>(
     ensures front { cell.new.value.front ≤ cell.old.value.front }
     ensures alone { OnOk result (cell.new.alone ≡ true) }
     ensures room { IfOk result (λ s. s + count + extra ≤ cell.new.value.capacity) }
-    ensures doubled { cell.old.value.capacity ≡ start + count → 0 < extra → OnOk result (2 * count ≤ cell.new.value.capacity) }
+    ensures doubled { cell.old.value.capacity < start + count + extra → IfOk result (λ s. (4 ≤ cell.new.value.capacity) × (s + 2 * count ≤ cell.new.value.capacity)) }
     ensures in_place { cell.old.alone ≡ true → start + count + extra ≤ cell.old.value.capacity → IsOk result × (cell.new ≡ cell.old) }
     ensures still { cell.old.alone ≡ true → IfOk result (λ s. s ≡ start) }
+    ensures free { cell.old.alone ≡ true → h.new ≡ h.old }
     ensures kept_or_renewed { IfOk result (λ s. (h.new ≡ h.old) ⊎ (length cell.new.value.items ≡ s + count)) }
     ensures refused { OnErr result ((cell.new.value ≡ cell.old.value) × (h.new ≡ h.old)) }
     ensures kept { OnErr result (cell.old.alone ≡ true → cell.new.alone ≡ true) }
@@ -165,6 +112,9 @@ pub fn prepare_run<T: Item<Q>, Q: Stock>(
     ensures no_gain { h.new.spare + count_by T.is_counted (map T.plain cell.new.value.items) ≤ h.old.spare + count_by T.is_counted (map T.plain cell.old.value.items) }
     ensures moved { Moves (count_by T.is_counted (map T.plain cell.old.value.items)) (copies cell.old.alone (T.WEIGHT * count)) h.old h.new }
 {
+    if has_room(cell, start + count + extra, h) {
+        return Ok(start);
+    }
     let capacity = grown(cell.get().capacity(), start + count + extra);
     if let Some(row) = cell.sole(h) {
         row.reserve(alloc, capacity)?;
@@ -174,7 +124,28 @@ pub fn prepare_run<T: Item<Q>, Q: Stock>(
     Ok(0)
 }
 
-/// Makes the handle alone, with room for `extra` more items.
+/// Whether the handle is alone with room for `wanted` items. It is known to be alone then.
+#[inline]
+fn has_room<T: Drop, Q: Stock>(
+    cell: &mut Counted<Row<T>, Q>,
+    wanted: usize,
+    h: &mut Holder<Q>,
+) -> bool
+    ensures value { cell.new.value ≡ cell.old.value }
+    ensures yes { IsTrue result → (cell.new.alone ≡ true) × (wanted ≤ cell.old.value.capacity) }
+    ensures always { cell.old.alone ≡ true → wanted ≤ cell.old.value.capacity → IsTrue result }
+    ensures same { cell.old.alone ≡ true → cell.new ≡ cell.old }
+    ensures purse { h.new ≡ h.old }
+{
+    match cell.sole(h) {
+        Some(row) => wanted <= row.capacity(),
+        None => false,
+    }
+}
+
+/// Makes the handle alone, with room for `extra` more items. One look at the handle where there is nothing to
+/// do.
+#[inline]
 pub fn prepare<T: Item<Q>, Q: Stock>(
     cell: &mut Counted<Row<T>, Q>,
     alloc: Global,
@@ -190,7 +161,8 @@ pub fn prepare<T: Item<Q>, Q: Stock>(
     ensures front { cell.new.value.front ≤ cell.old.value.front }
     ensures alone { OnOk result (cell.new.alone ≡ true) }
     ensures room { OnOk result (length cell.old.value.items + extra ≤ cell.new.value.capacity) }
-    ensures doubled { cell.old.value.capacity ≡ length cell.old.value.items → 0 < extra → OnOk result (2 * length cell.old.value.items ≤ cell.new.value.capacity) }
+    ensures doubled { cell.old.value.capacity < length cell.old.value.items + extra → OnOk result ((4 ≤ cell.new.value.capacity) × (2 * length cell.old.value.items ≤ cell.new.value.capacity)) }
+    ensures free { cell.old.alone ≡ true → h.new ≡ h.old }
     ensures in_place { cell.old.alone ≡ true → length cell.old.value.items + extra ≤ cell.old.value.capacity → IsOk result × (cell.new ≡ cell.old) }
     ensures refused { OnErr result ((cell.new.value ≡ cell.old.value) × (h.new ≡ h.old)) }
     ensures kept { OnErr result (cell.old.alone ≡ true → cell.new.alone ≡ true) }
@@ -221,6 +193,7 @@ pub fn reserve<T: Item<Q>, Q: Stock>(
     ensures enough { OnOk result (capacity ≤ cell.new.value.capacity) }
     ensures most { cell.new.value.capacity ≤ max capacity (cell.old.value.front + cell.old.value.capacity) }
     ensures in_place { cell.old.alone ≡ true → capacity ≤ cell.old.value.capacity → IsOk result × (cell.new ≡ cell.old) }
+    ensures free { cell.old.alone ≡ true → h.new ≡ h.old }
     ensures refused { OnErr result ((cell.new.value ≡ cell.old.value) × (h.new ≡ h.old)) }
     ensures kept { OnErr result (cell.old.alone ≡ true → cell.new.alone ≡ true) }
     ensures moved { Moves (count_by T.is_counted (map T.plain cell.old.value.items)) (copies cell.old.alone (T.WEIGHT * length cell.old.value.items)) h.old h.new }
@@ -243,6 +216,7 @@ pub fn clear<T: Item<Q>, Q: Stock>(
     ensures empty { OnOk result ((cell.new.value.items ≡ []) × (cell.new.alone ≡ true)) }
     ensures front { cell.new.value.front ≤ cell.old.value.front }
     ensures in_place { cell.old.alone ≡ true → IsOk result × (cell.new.value.capacity ≡ cell.old.value.capacity) }
+    ensures exact { cell.old.alone ≡ true → h.new ≡ more (count_by T.is_counted (map T.plain cell.old.value.items)) h.old }
     ensures refused { OnErr result ((cell.new ≡ cell.old) × (h.new ≡ h.old)) }
     ensures moved { Moves (count_by T.is_counted (map T.plain cell.old.value.items)) 0 h.old h.new }
 {

@@ -9,16 +9,15 @@ returns-clause-moved g c =
     let ended = rw c.replace-old.ensures.value at c.end_cell.ensures.moved in
     let units = rw c.get.ensures at c.copy_run.ensures.units in
     let made = c.in-Ok.ensures.paid in
-    let found = c.sole.ensures.purse in
     record {
-      falls = grind (arith, fewer, ended, units, made, found, c.end_cell.ensures.never_less);
-      rises = grind (arith, fewer, ended, units, made, found);
-      copied = grind (arith, ended, made, found, c.copy_run.ensures.copied);
-      kept = grind (arith, ended, made, found, c.copy_run.ensures.kept);
+      falls = grind (arith, fewer, ended, units, made, c.end_cell.ensures.never_less);
+      rises = grind (arith, fewer, ended, units, made);
+      copied = grind (arith, ended, made, c.copy_run.ensures.copied);
+      kept = grind (arith, ended, made, c.copy_run.ensures.copied);
     }
 
 pub returns-clause-no_gain : goal.returns-clause-no_gain
 returns-clause-no_gain g c =
     let ended = rw c.replace-old.ensures.value at c.end_cell.ensures.moved in
     let units = rw c.get.ensures at c.copy_run.ensures.units in
-    grind (arith, common_steps, ended, units, c.copy_run.ensures.same, c.in-Ok.ensures.paid, c.sole.ensures.purse)
+    grind (arith, common_steps, ended, units, c.copy_run.ensures.same, c.in-Ok.ensures.paid)

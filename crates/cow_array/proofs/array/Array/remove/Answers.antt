@@ -6,7 +6,7 @@ use Rattle.cow_array.proofs.array.Array.remove.Goals as goal
 
 pub invariant_of-self-2 : goal.invariant_of-self-2
 invariant_of-self-2 g c = (
-  rw (c.remove.ensures.row, c.in-Some.ensures.value)
+  rw (c.remove.ensures.row, c.only.ensures.value)
       (IsSound-remove g.T.Item.IsSettled c.prepare.new.cell.value c.args.i (grind (arith, common_steps)) c.prepare.ensures.sound),
   grind (arith, common_steps),
   grind (arith, common_steps, length-remove),

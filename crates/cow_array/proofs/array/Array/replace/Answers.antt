@@ -9,7 +9,7 @@ returns-clause-paid g c =
     let xs = c.prepare.new.cell.value.items in
     let same : count_by g.T.Item.is_counted (map g.T.Item.plain xs) ≡ count_by g.T.Item.is_counted (map g.T.Item.plain old) = ap (count_by g.T.Item.is_counted) c.prepare.ensures.same in
     let fewer = units-run g.T.Item.plain g.T.Item.is_counted xs c.args.i (c.args.j - c.args.i) in
-    let paid = rw (c.in-Some.ensures.value, c.sole.ensures.purse) at c.replace_run.ensures.paid in
+    let paid = rw c.only.ensures.value at c.replace_run.ensures.paid in
     let moved = c.prepare.ensures.moved in
     rw (← c.self.view_is, length-map)
     (rw paid (record {

@@ -6,7 +6,7 @@ use Rattle.cow_array.proofs.array.Array.swap_at.Goals as goal
 
 pub invariant_of-self-2 : goal.invariant_of-self-2
 invariant_of-self-2 g c = (
-  rw (c.swap.ensures, c.in-Some.ensures.value)
+  rw (c.swap.ensures, c.only.ensures.value)
       (IsSound-swap g.T.Item.IsSettled c.prepare.new.cell.value c.args.i c.args.j (grind (arith, common_steps)) (grind (arith, common_steps)) c.prepare.ensures.sound),
   grind (arith, common_steps),
   grind (arith, common_steps, length-swap),

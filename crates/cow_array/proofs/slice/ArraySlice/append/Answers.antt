@@ -13,7 +13,7 @@ pub returns-clause-items : goal.returns-clause-items
 returns-clause-items g c =
     rw (← c.self.view_is)
     (append-run-plain g.T.Item.plain c.prepare_run.new.cell.value.items c.put_behind.new.row.items c.self.inside.cell.value.items c.in-Ok.from c.self.inside.from c.self.inside.count c.settle.new.self c.args.x
-    (c.in-Ok.ensures.place.1) (rw c.in-Some.ensures.value at c.put_behind.ensures.items) c.in-Ok.ensures.same c.settle.ensures.same)
+    (c.in-Ok.ensures.place.1) (rw c.only.ensures.value at c.put_behind.ensures.items) c.in-Ok.ensures.same c.settle.ensures.same)
 
 last-stays : (a b : Purse) (m n : ℕ) (c : Purse) → (b ≡ a) ⊎ (m ≡ n) → (m ≡ n → c ≡ b) → (b ≡ a) ⊎ (c ≡ b)
 last-stays a b m n c (inl e) f = inl e
@@ -27,8 +27,8 @@ returns-clause-moved g c =
     let after = c.put_behind.new.h in
     let place = c.in-Ok.from + c.self.inside.count in
     let long = length-run-plain g.T.Item.plain c.self.inside.cell.value.items c.self.inside.from c.self.inside.count c.self.invariant.1 in
-    let paid = rw (c.in-Some.ensures.value, c.sole.ensures.purse) at c.put_behind.ensures.paid in
-    let last = rw (c.in-Some.ensures.value, c.sole.ensures.purse) at c.put_behind.ensures.last in
+    let paid = rw c.only.ensures.value at c.put_behind.ensures.paid in
+    let last = rw c.only.ensures.value at c.put_behind.ensures.last in
     rw (← c.self.view_is, long)
     (one-of-two (count_by g.T.Item.is_counted (map g.T.Item.plain c.self.inside.cell.value.items)) (count_by g.T.Item.is_counted (map g.T.Item.plain xs)) (copies c.self.inside.cell.alone (g.T.Item.WEIGHT * c.self.inside.count)) before between after
     c.in-Ok.ensures.moved paid c.in-Ok.ensures.units (last-stays before between (length xs) place after c.in-Ok.ensures.kept_or_renewed last))

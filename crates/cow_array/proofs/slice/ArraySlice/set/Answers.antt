@@ -4,7 +4,7 @@ use Rattle.cow_array.proofs.slice.ArraySlice.set.Goals as goal
 
 pub returns-clause-items : goal.returns-clause-items
 returns-clause-items g c =
-    rw (c.replace.ensures.row, c.in-Some.ensures.value, ← c.self.view_is)
+    rw (c.replace.ensures.row, c.only.ensures.value, ← c.self.view_is)
     (set-run-plain g.T.Item.plain c.prepare_run.new.cell.value.items c.self.inside.cell.value.items c.in-Ok.from c.self.inside.from c.self.inside.count (c.args.i - c.self.inside.start) c.settle.new.self c.args.x c.in-Ok.ensures.same c.settle.ensures.same)
 
 pub returns-clause-units : goal.returns-clause-units
@@ -15,7 +15,7 @@ returns-clause-units g c =
     let long = length-run-plain g.T.Item.plain c.self.inside.cell.value.items c.self.inside.from c.self.inside.count c.self.invariant.1 in
     let within : c.args.i - c.self.inside.start < c.self.inside.count = omega (arith, above, below, long) in
     let one = rw c.settle.ensures.same at (units-set g.T.Item.plain g.T.Item.is_counted c.prepare_run.new.cell.value.items at c.settle.new.self (omega (arith, c.in-Ok.ensures.place, within))) in
-    rw (c.replace.ensures.row, c.in-Some.ensures.value, ← c.self.view_is) (omega (arith, one, c.in-Ok.ensures.units))
+    rw (c.replace.ensures.row, c.only.ensures.value, ← c.self.view_is) (omega (arith, one, c.in-Ok.ensures.units))
 
 pub returns-clause-old : goal.returns-clause-old
 returns-clause-old g c =
@@ -24,4 +24,4 @@ returns-clause-old g c =
     let long = length-run-plain g.T.Item.plain c.self.inside.cell.value.items c.self.inside.from c.self.inside.count c.self.invariant.1 in
     let within : c.args.i - c.self.inside.start < c.self.inside.count = omega (arith, above, below, long) in
     rw (← c.self.view_is)
-    (get-same-plain g.T.Item.plain c.prepare_run.new.cell.value.items c.self.inside.cell.value.items c.in-Ok.from c.self.inside.from c.self.inside.count (c.args.i - c.self.inside.start) c.replace.result within c.in-Ok.ensures.same (rw c.in-Some.ensures.value at c.replace.ensures.value))
+    (get-same-plain g.T.Item.plain c.prepare_run.new.cell.value.items c.self.inside.cell.value.items c.in-Ok.from c.self.inside.from c.self.inside.count (c.args.i - c.self.inside.start) c.replace.result within c.in-Ok.ensures.same (rw c.only.ensures.value at c.replace.ensures.value))

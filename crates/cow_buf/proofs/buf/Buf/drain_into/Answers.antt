@@ -1,20 +1,16 @@
-use Rattle.std.proofs.Common.{◌+◌, arith, ap, length, length-append, length-drop, drop, is_some, ◌∙◌}
-use Rattle.std.proofs.lemmas.Grind.{common_steps}
-use Rattle.std.proofs.lemmas.List.{length-map, length-replicate}
-use Rattle.cow_buf.proofs.Flags.{flags-none, flags-poured}
-use Rattle.cow_buf.proofs.Moves.{gap}
+use Rattle.std.proofs.Common.{◌≡◌, ◌+◌, ◌≤◌, length, arith, ap, sym, ◌∙◌}
+use Rattle.std.proofs.lemmas.List.{length-replicate, length-append, length-drop}
+use Rattle.cow_buf.proofs.Moves.{gap, splice-length, run-length}
+use Rattle.cow_buf.proofs.Handed.{left-none, came-all}
 use Rattle.cow_buf.proofs.buf.Buf.drain_into.Goals as goal
 
-pub invariant_of-self : goal.invariant_of-self
-invariant_of-self g c =
-    let cs = c.self.inside.memory.places in let same = ap length c.pour.ensures.left ∙ length-replicate (length cs) (gap cs) in
-    record { flags = grind (arith, common_steps, flags-none g.row.T.Denot (length cs), length-map cs is_some, c.self.invariant.flags); small = omega (arith, same, c.self.invariant.small) }
+pub returns-clause-left : goal.returns-clause-left
+returns-clause-left g c =
+    let run = rw (← c.self.view_is) at c.requires.run in let rest = rw (← c.self.view_is) at c.requires.rest in
+    rw (← c.self.view_is) (c.hand_over.ensures.left ∙ left-none c.self.inside.memory.places c.args.n (omega (arith, run.0)) rest)
 
-pub invariant_of-other : goal.invariant_of-other
-invariant_of-other g c =
-    let cs = c.self.inside.memory.places in let ds = c.other.inside.memory.places in
-    let joined = ap length c.pour.ensures.came ∙ length-append cs (drop (length cs) ds) ∙ ap (λ n. length cs + n) (length-drop (length cs) ds) in
-    record {
-      flags = grind (arith, common_steps, flags-poured cs ds c.self.inside.flags.items c.other.inside.flags.items (length cs) c.self.invariant.flags c.other.invariant.flags, length-map cs is_some);
-      small = omega (arith, joined, rw (← c.self.view_is, ← c.other.view_is) at c.requires.longer, c.other.invariant.small);
-    }
+pub returns-clause-came : goal.returns-clause-came
+returns-clause-came g c =
+    let run = rw (← c.self.view_is) at c.requires.run in let rest = rw (← c.self.view_is) at c.requires.rest in
+    let longer = rw (← c.self.view_is, ← c.other.view_is) at c.requires.longer in let empty = rw (← c.other.view_is) at c.requires.empty in
+    rw (← c.self.view_is, ← c.other.view_is) (c.hand_over.ensures.came ∙ came-all c.self.inside.memory.places c.other.inside.memory.places c.args.n (omega (arith, run.0)) rest longer empty)

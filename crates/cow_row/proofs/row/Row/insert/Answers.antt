@@ -4,7 +4,13 @@ use Rattle.std.proofs.lemmas.List.Edits.{length-insert}
 use Rattle.cow_row.specs.Places.{somes, packed}
 use Rattle.cow_row.proofs.Packed.{is_packed, somes-packed, length-packed}
 use Rattle.cow_row.proofs.Gaps.{opened, inserted, place-gap}
+use Rattle.cow_row.proofs.Splices.{is_run}
 use Rattle.cow_row.proofs.row.Row.insert.Goals as goal
+
+pub shift-requires-clause-run : goal.shift-requires-clause-run
+shift-requires-clause-run g c =
+    let place = rw (← c.self.view_is) at c.requires.place in
+    is_run c.self.inside.buf c.self.inside.front c.self.inside.len c.args.i (c.self.inside.len - c.args.i) c.self.invariant (omega (arith, place, c.self.invariant.count))
 
 pub put-requires-clause-empty : goal.put-requires-clause-empty
 put-requires-clause-empty g c =

@@ -3,7 +3,13 @@ use Rattle.std.proofs.lemmas.List.Edits.{length-remove}
 use Rattle.cow_row.specs.Places.{somes, packed}
 use Rattle.cow_row.proofs.Packed.{is_packed, is_filled, filled_at, somes-packed, length-packed}
 use Rattle.cow_row.proofs.Gaps.{removed}
+use Rattle.cow_row.proofs.Whole.{run-behind}
 use Rattle.cow_row.proofs.row.Row.remove.Goals as goal
+
+pub shift-requires-clause-run : goal.shift-requires-clause-run
+shift-requires-clause-run g c =
+    let within = rw (← c.self.view_is) at c.requires in
+    rw c.take-item.ensures.places (run-behind c.self.inside.buf c.self.inside.front c.self.inside.len c.args.i c.self.invariant (omega (arith, within, c.self.invariant.count)))
 
 pub take-item-requires : goal.take-item-requires
 take-item-requires g c = let within = rw (← c.self.view_is) at c.requires in is_filled c.self.inside.buf c.self.inside.front c.self.inside.len c.args.i c.self.invariant (omega (arith, within, c.self.invariant.count))

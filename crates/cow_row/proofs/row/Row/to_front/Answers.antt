@@ -2,7 +2,11 @@ use Rattle.std.proofs.Common.{◌≡◌, ◌+◌, ◌-◌, length, refl, sym, �
 use Rattle.cow_row.specs.Places.{somes, packed}
 use Rattle.cow_row.proofs.Packed.{is_packed, somes-packed, length-packed}
 use Rattle.cow_row.proofs.Gaps.{fronted}
+use Rattle.cow_row.proofs.Whole.{all_run}
 use Rattle.cow_row.proofs.row.Row.to_front.Goals as goal
+
+pub shift-requires-clause-run : goal.shift-requires-clause-run
+shift-requires-clause-run g c = all_run c.self.inside.buf c.self.inside.front c.self.inside.len c.self.invariant
 
 pub invariant_of-self : goal.invariant_of-self
 invariant_of-self g c =
