@@ -63,7 +63,8 @@ fn insert_at<T: Element<Q>, Q: Stock>(
 ) -> Result<Result<(), Refusal>, NoMemory>
     requires length { FitsText atom.now }
     requires ready { IsReady 1 (array a.old) h.old }
-    ensures does { Does (whole (spec.insert_at i atom.now)) (array a.old) (array a.new) [] [] result }
+    ensures does { Does (whole (spec.insert_at i atom.now))
+        (array a.old) (array a.new) [] [] result }
     ensures paid { Costs T.is_counted (literal T.is_counted (atom.now ∷ []))
         (whole (spec.insert_at i atom.now)) (array a.old) (array a.new) h.old h.new result }
 {
@@ -189,7 +190,8 @@ fn remove<T: Element<Q>, Q: Stock>(
     h: &mut Holder<Q>,
 ) -> Result<Result<(), Refusal>, NoMemory>
     requires ready { IsReady 1 (array a.old) h.old }
-    ensures does { Does (keyed x.now (spec.remove x.now)) (array a.old) (array a.new) text.old.items text.new.items result }
+    ensures does { Does (keyed x.now (spec.remove x.now)) (array a.old) (array a.new)
+        text.old.items text.new.items result }
     ensures paid { Costs T.is_counted (literal T.is_counted (x.now ∷ []))
         (keyed x.now (spec.remove x.now)) (array a.old) (array a.new) h.old h.new result }
 {
@@ -221,7 +223,8 @@ fn pop<T: Element<Q>, Q: Stock>(
     h: &mut Holder<Q>,
 ) -> Result<Result<(), Refusal>, NoMemory>
     requires ready { IsReady 0 (array a.old) h.old }
-    ensures does { Does (popping side) (array a.old) (array a.new) text.old.items text.new.items result }
+    ensures does { Does (popping side) (array a.old) (array a.new)
+        text.old.items text.new.items result }
     ensures paid { Costs T.is_counted (literal T.is_counted [])
         (popping side) (array a.old) (array a.new) h.old h.new result }
 {
@@ -254,7 +257,8 @@ fn splice<T: Element<Q>, Q: Stock>(
 ) -> Result<Result<(), Refusal>, NoMemory>
     requires texts { All FitsText atoms.now }
     requires ready { IsReady (length atoms.now) (array a.old) h.old }
-    ensures does { Does (whole (spec.splice i j atoms.now)) (array a.old) (array a.new) [] [] result }
+    ensures does { Does (whole (spec.splice i j atoms.now))
+        (array a.old) (array a.new) [] [] result }
     ensures paid { Costs T.is_counted (literal T.is_counted atoms.now)
         (whole (spec.splice i j atoms.now)) (array a.old) (array a.new) h.old h.new result }
 {
@@ -339,7 +343,8 @@ fn equal<T: Element<Q>, Q: Stock>(
     other: &Array<T, Q>,
     text: &mut Vec<u8>,
 ) -> Result<(), NoMemory>
-    ensures ok { OnOk result (text.new.items ≡ text.old.items ++ line (truth (same_items a.now.value other.now.value))) }
+    ensures ok { OnOk result (text.new.items ≡ text.old.items
+        ++ line (truth (same_items a.now.value other.now.value))) }
     ensures err { OnErr result (text.new.items ≡ text.old.items) }
 {
     put_truth(a.equals(other), text)

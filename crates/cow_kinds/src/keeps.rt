@@ -1,5 +1,5 @@
-// Whether a statement leaves a value the same, told before it is done: no memory is taken and no element is
-// made.
+// Whether a statement leaves a list of elements the same, told before it is done: no memory is
+// taken and no element is made.
 ghost use Rattle.std.specs.Prelude.{◌≡◌, ◌-◌, ◌≤◌, ◌↔◌, ◌++◌, take, drop, reverse, length, slice_get, slice_set, Some, IfSome, IsTrue};
 ghost use Rattle.std.specs.List as lists;
 ghost use Rattle.cow_model.specs.Operation as spec;
@@ -24,7 +24,8 @@ fn is_at<T: Element<Q>, Q: Stock, L: Listed<T, Q>>(list: &L, place: usize, atom:
 
 // Whether the elements at two places are one.
 fn agree<T: Element<Q>, Q: Stock, L: Listed<T, Q>>(list: &L, i: usize, j: usize) -> bool
-    ensures { IsTrue result ↔ (slice_get (L.elements list.now) i ≡ slice_get (L.elements list.now) j) }
+    ensures { IsTrue result
+        ↔ (slice_get (L.elements list.now) i ≡ slice_get (L.elements list.now) j) }
 {
     match (list.at(i), list.at(j)) {
         (Some(x), Some(y)) => x.same(y),
@@ -33,7 +34,7 @@ fn agree<T: Element<Q>, Q: Stock, L: Listed<T, Q>>(list: &L, i: usize, j: usize)
     }
 }
 
-// Whether the list is the same in the opposite order.
+/// Whether the list is the same in the opposite order.
 pub fn is_palindrome<T: Element<Q>, Q: Stock, L: Listed<T, Q>>(list: &L) -> bool
     ensures { IsTrue result ↔ (L.elements list.now ≡ reverse (L.elements list.now)) }
 {
@@ -68,14 +69,16 @@ fn shows<T: Element<Q>, Q: Stock, L: Listed<T, Q>>(
     true
 }
 
-// `set N I A`, of a list whose first element has the index `start`
+/// Whether `set N I A` leaves it the same, of a list whose first element has the index `start`.
 pub fn set<T: Element<Q>, Q: Stock, L: Listed<T, Q>>(
     list: &L,
     start: usize,
     i: i64,
     atom: &Literal,
 ) -> bool
-    ensures { IfSome (spec.index start (length (L.elements list.now)) i) (λ k. result ≡ same_items (L.elements list.now) (slice_set (L.elements list.now) k atom.now)) }
+    ensures { IfSome (spec.index start (length (L.elements list.now)) i)
+        (λ k. result
+        ≡ same_items (L.elements list.now) (slice_set (L.elements list.now) k atom.now)) }
 {
     match index(start, list.size(), i) {
         Some(place) => is_at(list, place, atom),
@@ -83,9 +86,11 @@ pub fn set<T: Element<Q>, Q: Stock, L: Listed<T, Q>>(
     }
 }
 
-// `swap N I J`
+/// Whether `swap N I J` leaves it the same.
 pub fn swap<T: Element<Q>, Q: Stock, L: Listed<T, Q>>(list: &L, i: i64, j: i64) -> bool
-    ensures { IfSome (spec.index 0 (length (L.elements list.now)) i) (λ k. IfSome (spec.index 0 (length (L.elements list.now)) j) (λ m. result ≡ same_items (L.elements list.now) (lists.swap (L.elements list.now) k m))) }
+    ensures { IfSome (spec.index 0 (length (L.elements list.now)) i)
+        (λ k. IfSome (spec.index 0 (length (L.elements list.now)) j)
+        (λ m. result ≡ same_items (L.elements list.now) (lists.swap (L.elements list.now) k m))) }
 {
     match (index(0, list.size(), i), index(0, list.size(), j)) {
         (Some(first), Some(second)) => agree(list, first, second),
@@ -93,14 +98,16 @@ pub fn swap<T: Element<Q>, Q: Stock, L: Listed<T, Q>>(list: &L, i: i64, j: i64) 
     }
 }
 
-// `splice N I J A*`
+/// Whether `splice N I J A*` leaves it the same.
 pub fn splice<T: Element<Q>, Q: Stock, L: Listed<T, Q>>(
     list: &L,
     i: i64,
     j: i64,
     atoms: &[Literal],
 ) -> bool
-    ensures { IfSome (spec.stretch (length (L.elements list.now)) i j) (λ r. result ≡ same_items (L.elements list.now) (take r.0 (L.elements list.now) ++ atoms.now ++ drop r.1 (L.elements list.now))) }
+    ensures { IfSome (spec.stretch (length (L.elements list.now)) i j)
+        (λ r. result ≡ same_items (L.elements list.now)
+        (take r.0 (L.elements list.now) ++ atoms.now ++ drop r.1 (L.elements list.now))) }
 {
     match stretch(list.size(), i, j) {
         Some((from, to)) => shows(list, from, to, atoms),

@@ -41,7 +41,8 @@ pub fn put_element_at<T: Element<Q>, Q: Stock, L: Listed<T, Q>>(
     place: usize,
     text: &mut Vec<u8>,
 ) -> Result<(), NoMemory>
-    ensures ok { OnOk result (text.new.items ≡ text.old.items ++ line (element (L.elements list.now) place)) }
+    ensures ok { OnOk result (text.new.items ≡ text.old.items
+        ++ line (element (L.elements list.now) place)) }
     ensures err { OnErr result (text.new.items ≡ text.old.items) }
 {
     match list.at(place) {

@@ -25,7 +25,8 @@ pub trait Listed<T: Element<Q>, Q: Stock> {
 }
 
 fn put_behind_comma<T: Element<Q>, Q: Stock>(x: &T, text: &mut Vec<u8>) -> Result<(), NoMemory>
-    ensures ok { OnOk result (text.new.items ≡ text.old.items ++ behind_comma (atom_text (T.plain x.now))) }
+    ensures ok { OnOk result
+        (text.new.items ≡ text.old.items ++ behind_comma (atom_text (T.plain x.now))) }
     ensures front { StartsWith text.new.items text.old.items }
 {
     text.extend_from_slice(b", ")?;
@@ -38,7 +39,8 @@ fn put_others<T: Element<Q>, Q: Stock, L: Listed<T, Q>>(
     list: &L,
     text: &mut Vec<u8>,
 ) -> Result<(), NoMemory>
-    ensures ok { OnOk result (text.new.items ≡ text.old.items ++ flat_map behind_comma (map atom_text (drop 1 (L.elements list.now)))) }
+    ensures ok { OnOk result (text.new.items ≡ text.old.items
+        ++ flat_map behind_comma (map atom_text (drop 1 (L.elements list.now)))) }
     ensures front { StartsWith text.new.items text.old.items }
 {
     for place in 1..list.size() {
@@ -55,7 +57,8 @@ fn put_separated<T: Element<Q>, Q: Stock, L: Listed<T, Q>>(
     list: &L,
     text: &mut Vec<u8>,
 ) -> Result<(), NoMemory>
-    ensures ok { OnOk result (text.new.items ≡ text.old.items ++ separated (map atom_text (L.elements list.now))) }
+    ensures ok { OnOk result (text.new.items ≡ text.old.items
+        ++ separated (map atom_text (L.elements list.now))) }
     ensures front { StartsWith text.new.items text.old.items }
 {
     match list.at(0) {
@@ -87,7 +90,8 @@ pub fn put_list_from<T: Element<Q>, Q: Stock, L: Listed<T, Q>>(
     start: usize,
     text: &mut Vec<u8>,
 ) -> Result<(), NoMemory>
-    ensures ok { OnOk result (text.new.items ≡ text.old.items ++ list_text (L.elements list.now) ++ codes " from " ++ decimal start) }
+    ensures ok { OnOk result (text.new.items ≡ text.old.items
+        ++ list_text (L.elements list.now) ++ codes " from " ++ decimal start) }
     ensures front { StartsWith text.new.items text.old.items }
 {
     put_list(list, text)?;

@@ -16,7 +16,8 @@ pub fn get<T: Element<Q>, Q: Stock, L: Listed<T, Q>>(
     x: &Literal,
     text: &mut Vec<u8>,
 ) -> Result<Result<(), Refusal>, NoMemory>
-    ensures { Tells (spec.get_at start x.now (L.elements list.now)) text.old.items text.new.items result }
+    ensures { Tells (spec.get_at start x.now (L.elements list.now))
+        text.old.items text.new.items result }
 {
     let Literal::Int(i) = x else {
         return Ok(Err(Refusal::WrongKind));

@@ -27,9 +27,12 @@ fn read_one<T: Element<Q>, Q: Stock>(
 ) -> Result<(), NoMemory>
     requires text { FitsText literal.now }
     requires spare { 1 ≤ h.old.spare }
-    ensures ok { OnOk result (map T.plain items.new.items ≡ map T.plain items.old.items ++ literal.now ∷ []) }
-    ensures spent { OnOk result (h.new ≡ noted 1 (less (unit_if (T.is_counted literal.now)) h.old)) }
-    ensures refused { OnErr result ((items.new.items ≡ items.old.items) × (h.new.spare ≡ h.old.spare)) }
+    ensures ok { OnOk result
+        (map T.plain items.new.items ≡ map T.plain items.old.items ++ literal.now ∷ []) }
+    ensures spent { OnOk result
+        (h.new ≡ noted 1 (less (unit_if (T.is_counted literal.now)) h.old)) }
+    ensures refused { OnErr result
+        ((items.new.items ≡ items.old.items) × (h.new.spare ≡ h.old.spare)) }
     ensures copied { OnErr result (Moves 0 1 h.old h.new) }
 {
     let x = T::read(alloc, literal, h)?;
@@ -51,8 +54,10 @@ fn read_into<T: Element<Q>, Q: Stock>(
     requires spare { length literals.now ≤ h.old.spare }
     requires empty { items.old.items ≡ [] }
     ensures ok { OnOk result (map T.plain items.new.items ≡ literals.now) }
-    ensures spent { OnOk result (h.new ≡ noted (length literals.now) (less (count_by T.is_counted literals.now) h.old)) }
-    ensures units { h.new.spare + count_by T.is_counted (map T.plain items.new.items) ≡ h.old.spare }
+    ensures spent { OnOk result
+        (h.new ≡ noted (length literals.now) (less (count_by T.is_counted literals.now) h.old)) }
+    ensures units { h.new.spare + count_by T.is_counted (map T.plain items.new.items)
+        ≡ h.old.spare }
     ensures copied { h.new.copied ≤ h.old.copied + length literals.now }
     ensures kept { h.old.copied ≤ h.new.copied }
 {
@@ -62,7 +67,8 @@ fn read_into<T: Element<Q>, Q: Stock>(
     Ok(())
 }
 
-/// The elements of the literals, in order. Each counts one copy; want of memory gives their units back.
+/// The elements of the literals, in order. Each counts one copy; want of memory gives their units
+/// back.
 pub fn read_all<T: Element<Q>, Q: Stock>(
     alloc: Global,
     literals: &[Literal],
@@ -71,7 +77,8 @@ pub fn read_all<T: Element<Q>, Q: Stock>(
     requires texts { All FitsText literals.now }
     requires spare { length literals.now ≤ h.old.spare }
     ensures ok { IfOk result (λ items. map T.plain items.items ≡ literals.now) }
-    ensures spent { OnOk result (h.new ≡ noted (length literals.now) (less (count_by T.is_counted literals.now) h.old)) }
+    ensures spent { OnOk result
+        (h.new ≡ noted (length literals.now) (less (count_by T.is_counted literals.now) h.old)) }
     ensures refused { OnErr result (Moves 0 (length literals.now) h.old h.new) }
 {
     let mut items = Vec::new(alloc);

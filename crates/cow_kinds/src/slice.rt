@@ -92,7 +92,8 @@ fn pop<T: Element<Q>, Q: Stock>(
     h: &mut Holder<Q>,
 ) -> Result<Result<(), Refusal>, NoMemory>
     requires ready { IsReady 0 (slice s.old) h.old }
-    ensures does { Does (popping side) (slice s.old) (slice s.new) text.old.items text.new.items result }
+    ensures does { Does (popping side) (slice s.old) (slice s.new)
+        text.old.items text.new.items result }
     ensures paid { Costs T.is_counted (literal T.is_counted [])
         (popping side) (slice s.old) (slice s.new) h.old h.new result }
 {
@@ -112,7 +113,8 @@ fn equal<T: Element<Q>, Q: Stock>(
     other: &ArraySlice<T, Q>,
     text: &mut Vec<u8>,
 ) -> Result<(), NoMemory>
-    ensures ok { OnOk result (text.new.items ≡ text.old.items ++ line (truth (same_items s.now.value.items other.now.value.items))) }
+    ensures ok { OnOk result (text.new.items ≡ text.old.items
+        ++ line (truth (same_items s.now.value.items other.now.value.items))) }
     ensures err { OnErr result (text.new.items ≡ text.old.items) }
 {
     put_truth(s.equals(other), text)

@@ -1,5 +1,5 @@
 -- The units of values of all kinds: one for each counted atom, and those of a trie's nodes.
-use Rattle.std.specs.Prelude.{ℕ, ◌+◌, Bool, count_by, if◌then◌else◌}
+use Rattle.std.specs.Prelude.{ℕ, ◌+◌, Bool, true, false, count_by, if◌then◌else◌}
 use Rattle.std.specs.List.{sum_by}
 use Rattle.cow_model.specs.Flat.{need}
 use Rattle.cow_model.specs.Plain.{count, is_tree}
@@ -29,3 +29,8 @@ units_of p (ODict pairs) = sum_by (pair_units p) pairs
 units_of p (Heap items) = count_by p items
 units_of p (TSet items) = count_by p items + nodes_of (TSet items)
 units_of p (TDict pairs) = sum_by (pair_units p) pairs + nodes_of (TDict pairs)
+
+-- whether a plain value tells the units of its storage: that of a slice may hold what the slice doesn't show
+abbrev pub tells_units : Plain → Bool
+tells_units (Slice start items) = false
+tells_units v = true

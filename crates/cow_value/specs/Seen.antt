@@ -1,10 +1,10 @@
 -- What contracts see of a value of any kind, and what a statement brings to it.
-use Rattle.std.specs.Prelude.{ℕ, ◌+◌, Bool, true, false, List, length, count_by}
+use Rattle.std.specs.Prelude.{ℕ, ◌+◌, Bool, true, false, List, length, count_by, if◌then◌else◌}
 use Rattle.cow_model.specs.Atoms.{counted_in}
 use Rattle.cow_model.specs.Plain.{size}
 use Rattle.cow_model.specs.Sharing.{Layer, literals}
 use Rattle.cow_model.specs.Turns.{added_of}
-use Rattle.cow_model.specs.Units.{nodes_of, units_of}
+use Rattle.cow_model.specs.Units.{nodes_of, units_of, tells_units}
 use Rattle.cow_model.specs.declared.plain.Literal.{Literal}
 use Rattle.cow_model.specs.declared.value.Plain.{Plain}
 
@@ -17,6 +17,10 @@ pub record Seen : Type 0 where
 -- the units that it holds: those of its plain value, and the hidden ones
 abbrev pub units : (Literal → Bool) → Seen → ℕ
 units counted v = v.hidden + units_of counted v.value
+
+-- the units of its storage: a slice's plain value doesn't tell them
+abbrev pub stored : (Literal → Bool) → Seen → ℕ
+stored counted v = if tells_units v.value then units_of counted v.value else v.hidden
 
 -- the same in a handle that isn't alone
 abbrev pub shared : Seen → Seen

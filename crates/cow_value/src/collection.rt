@@ -12,12 +12,12 @@ ghost use Rattle.cow_model.specs.Printed.{plain_text};
 ghost use Rattle.cow_model.specs.Purse.{Moves, less, more};
 ghost use Rattle.cow_model.specs.Sharing.{Layer, literals, both_cost_of};
 ghost use Rattle.cow_model.specs.Turns.{turn_of, turn_by_of, TellsParts};
-ghost use Rattle.cow_model.specs.Units.{units_of};
+ghost use Rattle.cow_model.specs.Units.{nodes_of, units_of};
 ghost use Rattle.cow_model.specs.declared.plain.Literal.{Literal};
 ghost use Rattle.cow_model.specs.declared.statement.Statement.{out-Statement};
 ghost use Rattle.cow_value.specs.Built.{is_built_kind};
 ghost use Rattle.cow_value.specs.Calls.{IsReady, Does, Costs, Tells, Made};
-ghost use Rattle.cow_value.specs.Seen.{Seen, shared, fresh, units, literals_of, given_by};
+ghost use Rattle.cow_value.specs.Seen.{Seen, shared, fresh, units, stored, literals_of, given_by};
 
 use cow_cell::{Holder, Stock};
 use cow_model::{Kind, Literal, NoMemory, Refusal, Statement};
@@ -32,8 +32,8 @@ pub trait Shown<V>: Sized + Drop {
     ghost counted: { Literal → Bool };
 }
 
-/// A collection of one kind, or the type `V` of all kinds: what one statement does to a value of it. The other
-/// value that a statement names is of type `V`, and so is a slice.
+/// A collection of one kind, or the type `V` of all kinds: what one statement does to a value of it.
+/// The other value that a statement names is of type `V`, and so is a slice.
 pub trait Collection<V: Shown<V>, Q: Stock>: Shown<V> {
     /// The statements that `change` does: all, or all but one that gives a value of another kind.
     ghost takes: { Layer → Bool };
@@ -60,11 +60,14 @@ pub trait Collection<V: Shown<V>, Q: Stock>: Shown<V> {
     /// Gives the handle back; the last one of a storage ends what it holds, shown or not.
     fn end(self, h: &mut Holder<Q>)
         ensures moved { Moves (units Self.counted (Self.seen self)) 0 (more 1 h.old) h.new }
+        ensures exact { (Self.seen self).alone ≡ true → nodes_of (Self.seen self).value ≡ 0 →
+            h.new ≡ more (stored Self.counted (Self.seen self)) (more 1 h.old) }
         ensures never_less { h.old.spare + 1 ≤ h.new.spare };
 
     /// Appends the printed form. Want of memory leaves a part of it.
     fn put(&self, text: &mut Vec<u8>) -> Result<(), NoMemory>
-        ensures ok { OnOk result (text.new.items ≡ text.old.items ++ plain_text (Self.seen self.now).value) }
+        ensures ok { OnOk result
+            (text.new.items ≡ text.old.items ++ plain_text (Self.seen self.now).value) }
         ensures front { StartsWith text.new.items text.old.items };
 
     /// Does a statement that changes one value, and appends what it prints to `text`.
@@ -79,11 +82,13 @@ pub trait Collection<V: Shown<V>, Q: Stock>: Shown<V> {
     ) -> Result<Result<(), Refusal>, NoMemory>
         requires takes { Self.takes (out-Statement statement.now) ≡ true }
         requires texts { FitsTexts (out-Statement statement.now) }
-        requires ready { IsReady (literals (out-Statement statement.now)) (Self.seen self.old) h.old }
-        ensures does { Does (turn_of (out-Statement statement.now)) (Self.seen self.old) (Self.seen self.new)
-            text.old.items text.new.items result }
+        requires ready { IsReady (literals (out-Statement statement.now))
+            (Self.seen self.old) h.old }
+        ensures does { Does (turn_of (out-Statement statement.now))
+            (Self.seen self.old) (Self.seen self.new) text.old.items text.new.items result }
         ensures paid { Costs Self.counted (literals_of Self.counted (out-Statement statement.now))
-            (turn_of (out-Statement statement.now)) (Self.seen self.old) (Self.seen self.new) h.old h.new result };
+            (turn_of (out-Statement statement.now))
+            (Self.seen self.old) (Self.seen self.new) h.old h.new result };
 
     /// Does a statement that changes one value by another; none of them prints.
     fn change_by(
@@ -96,7 +101,8 @@ pub trait Collection<V: Shown<V>, Q: Stock>: Shown<V> {
         requires ready { IsReady (plain.size (V.seen other.now).value) (Self.seen self.old) h.old }
         ensures does { Does (turn_by_of (out-Statement statement.now) (V.seen other.now).value)
             (Self.seen self.old) (Self.seen self.new) [] [] result }
-        ensures paid { Costs Self.counted (given_by Self.counted (out-Statement statement.now) (V.seen other.now))
+        ensures paid { Costs Self.counted
+            (given_by Self.counted (out-Statement statement.now) (V.seen other.now))
             (turn_by_of (out-Statement statement.now) (V.seen other.now).value)
             (Self.seen self.old) (Self.seen self.new) h.old h.new result };
 
@@ -105,20 +111,24 @@ pub trait Collection<V: Shown<V>, Q: Stock>: Shown<V> {
         requires small { plain.count (Self.seen self.now).value ≤ max_count }
         requires other { plain.count (V.seen other.now).value ≤ max_count }
         ensures { result ≡ refusal_in
-            ((turn_by_of (out-Statement statement.now) (V.seen other.now).value).run (Self.seen self.now).value) };
+            ((turn_by_of (out-Statement statement.now) (V.seen other.now).value).run
+            (Self.seen self.now).value) };
 
     /// Whether a statement that isn't refused leaves the value alone where it wasn't. No memory.
     fn parts(&self, statement: &Statement) -> bool
-        ensures { TellsParts result (turn_of (out-Statement statement.now)) (Self.seen self.now).value };
+        ensures { TellsParts result (turn_of (out-Statement statement.now))
+            (Self.seen self.now).value };
 
     /// The same of one that changes it by another value.
     fn parts_by(&self, statement: &Statement, other: &V) -> bool
-        ensures { TellsParts result (turn_by_of (out-Statement statement.now) (V.seen other.now).value)
+        ensures { TellsParts result
+            (turn_by_of (out-Statement statement.now) (V.seen other.now).value)
             (Self.seen self.now).value };
 
     /// The most copies that the sharing rule allows a statement beside its literals, by the flag.
     fn cost(&self, statement: &Statement, alone: bool) -> usize
-        ensures { result ≡ (turn_of (out-Statement statement.now)).cost alone (Self.seen self.now).value };
+        ensures { result
+            ≡ (turn_of (out-Statement statement.now)).cost alone (Self.seen self.now).value };
 
     /// The same of a change by another value, beside the other's elements.
     fn both_cost(&self, alone: bool) -> usize
@@ -141,7 +151,8 @@ pub trait Collection<V: Shown<V>, Q: Stock>: Shown<V> {
         text: &mut Vec<u8>,
     ) -> Result<Result<(), Refusal>, NoMemory>
         ensures { Tells
-            (query_both_of (out-Statement statement.now) (Self.seen self.now).value (V.seen other.now).value)
+            (query_both_of (out-Statement statement.now)
+            (Self.seen self.now).value (V.seen other.now).value)
             text.old.items text.new.items result };
 
     /// `let N = slice M I J`, in one step: both show their elements, and neither is alone.
@@ -152,9 +163,11 @@ pub trait Collection<V: Shown<V>, Q: Stock>: Shown<V> {
             (λ why. spec.slice i j (Self.seen self.old).value ≡ Err why) }
         ensures same { OnOk result (Self.seen self.new ≡ shared (Self.seen self.old)) }
         ensures alone { IfOk result (λ v. (V.seen v).alone ≡ false) }
-        ensures hidden { IfOk result (λ v. (V.seen v).hidden ≡ units_of Self.counted (Self.seen self.old).value) }
+        ensures hidden { IfOk result
+            (λ v. (V.seen v).hidden ≡ units_of Self.counted (Self.seen self.old).value) }
         ensures spent { OnOk result (h.new ≡ less 1 h.old) }
-        ensures refused { OnErr result ((Self.seen self.new ≡ Self.seen self.old) × (h.new ≡ h.old)) };
+        ensures refused { OnErr result
+            ((Self.seen self.new ≡ Self.seen self.old) × (h.new ≡ h.old)) };
 
     /// Why `slice` refuses, told without a change.
     fn slice_refusal(&self, i: i64, j: i64) -> Option<Refusal>
@@ -175,7 +188,8 @@ pub trait Values<Q: Stock>: Collection<Self, Q> {
         requires few { length atoms.now ≤ max_count }
         requires spare { need (2 * length atoms.now + 1) ≤ h.old.spare }
         ensures ok { IfOk result (λ v. Self.seen v ≡ fresh (spec.made kind atoms.now)) }
-        ensures paid { Made Self.counted (spec.made kind atoms.now) (length atoms.now) h.old h.new result };
+        ensures paid { Made Self.counted (spec.made kind atoms.now) (length atoms.now)
+            h.old h.new result };
 
     /// It does every statement.
     ghost takes_all: { (s : Layer) → Self.Collection.takes s ≡ true };

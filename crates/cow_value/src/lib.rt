@@ -1,13 +1,14 @@
 //! What a value of any kind is to the layer above: one trait, with each contract once.
 //!
 //! Contracts see of a value its plain value, whether it is known to be alone, and its hidden units
-//! (`specs/Seen.antt`). What a call relies on and promises is one record each (`specs/Calls.antt`), over the
-//! row that the table of `cow_model` gives a statement.
+//! (`specs/Seen.antt`). What a call relies on and promises is one record each (`specs/Calls.antt`),
+//! over the row that the table of `cow_model` gives a statement.
 //!
 //! - [`Collection`] is implemented by each kind and by the type `V` of all kinds.
-//! - [`Values`] is the type of all kinds that are built. The layer above is generic in it, `V: Values<Q>`: it
-//!   sees no kind, no element and no storage.
-//! - What a statement tells of itself without a value: its line, its number of literals, whether it is built.
+//! - [`Values`] is the type of all kinds that are built. The layer above is generic in it,
+//!   `V: Values<Q>`: it sees no kind, no element and no storage.
+//! - What a statement tells of itself without a value: its line, its number of literals, whether it
+//!   is built.
 #![tactic(auto)]
 
 mod collection;
