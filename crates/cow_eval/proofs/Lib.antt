@@ -1,12 +1,7 @@
-pub mod Apart
 pub mod BareNames
-pub mod Blocks
 pub mod Costs
-pub mod FirstLine
 pub mod Flags
-pub mod Growth
+pub mod Itself
 pub mod Places
 pub mod Results
-pub mod Spends
-pub mod SpendsBy
 pub mod Steps

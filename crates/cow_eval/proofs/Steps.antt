@@ -15,11 +15,21 @@ use Rattle.cow_model.specs.declared.outcome.Entry.{Entry}
 use Rattle.cow_model.specs.declared.outcome.Environment.{Environment}
 use Rattle.cow_model.specs.declared.outcome.Outcome.{Outcome}
 use Rattle.cow_model.specs.declared.refusal.Refusal.{Refusal}
+use Rattle.cow_model.specs.declared.refusal.Refusal.TheVariants.{Full}
 use Rattle.cow_model.specs.declared.value.Plain.{Plain}
-use Rattle.cow_kinds.specs.Answers.{verdict, reply_of, told_verdict, told_reply}
-use Rattle.cow_eval.specs.Envs.{Held, Envs, entry_of, env_of}
-use Rattle.cow_eval.specs.Entries.{with_change, entry_after, refusal_or_full}
+use Rattle.cow_model.specs.Answers.{verdict, reply_of, told_verdict, told_reply}
+use Rattle.cow_eval.specs.Entries.{SeenEntry, entry_of, entry_after}
+use Rattle.cow_eval.specs.Envs.{SeenEnv, env_of}
 use Rattle.cow_eval.proofs.Places.{there, put-there, same-there, settled-there, map-remove}
+
+-- a change of the value of a name, for which so many copies are allowed, and of which `alone` tells the flag
+abbrev pub with_change : Environment → Text → (Entry → ℕ) → (Entry → Plain → Bool) → (Entry → Answer) → Outcome
+with_change env name n alone run = with_entry env name (λ e. becomes env name (n e) (alone e) (run e))
+
+-- why a slice isn't made where no name can be given: its own refusal comes first
+abbrev pub refusal_or_full : Answer → Refusal
+refusal_or_full (Ok done) = Full
+refusal_or_full (Err why) = why
 
 -- an outcome: the environment that was left, and the text
 pub record Did (after : Environment) (printed : Text) (out : Outcome) : Type 0 where
@@ -75,13 +85,13 @@ unplaced before name other (Err why) room = record { env = refl; text = refl }
 pub second : (before : Environment) (name other : Text) (v : Plain) → env.has_place name before.names ≡ true → Did (gives name v false (settles other before)) [] (second_in before name other v)
 second before name other v place = rw place (record { env = refl; text = refl })
 
-module _ (before : Envs) (name : Text) (at : ℕ) (e : Held) (place : env.place_of name (map entry_of before.names) ≡ Some at) (is : e ≡ get_or before.names at e) where
+module _ (before : SeenEnv) (name : Text) (at : ℕ) (e : SeenEntry) (place : env.place_of name (map entry_of before.names) ≡ Some at) (is : e ≡ get_or before.names at e) where
   -- a name whose flag falls
-  pub settled : (e' : Held) → entry_of e' ≡ env.shared (entry_of e) → env_of (record { names = set before.names at e'; room = before.room; allowed = before.allowed }) ≡ settles name (env_of before)
+  pub settled : (e' : SeenEntry) → entry_of e' ≡ env.shared (entry_of e) → env_of (record { names = set before.names at e'; room = before.room; allowed = before.allowed }) ≡ settles name (env_of before)
   settled e' same = ap (λ names. record { names = names; room = before.room; allowed = before.allowed }) (settled-there name before.names at e place is e' same)
 
   -- a second value of it
-  pub assigned : (new : Text) (e' : Held) (v : Plain) → entry_of e' ≡ env.shared (entry_of e) → v ≡ e.seen.value → env.has_place new (map entry_of before.names) ≡ true →
+  pub assigned : (new : Text) (e' : SeenEntry) (v : Plain) → entry_of e' ≡ env.shared (entry_of e) → v ≡ e.seen.value → env.has_place new (map entry_of before.names) ≡ true →
       Did (gives new v false (env_of (record { names = set before.names at e'; room = before.room; allowed = before.allowed }))) [] (assign_in (env_of before) new name)
   assigned new e' v same value room =
       let stands = there name before.names at e place is in
@@ -93,7 +103,7 @@ module _ (before : Envs) (name : Text) (at : ℕ) (e : Held) (place : env.place_
       }
 
   -- a slice of it
-  pub cut : (new : Text) (i j : ℤ) (e' : Held) (v : Plain) → entry_of e' ≡ env.shared (entry_of e) → operation.slice i j e.seen.value ≡ operation.silent v → env.has_place new (map entry_of before.names) ≡ true →
+  pub cut : (new : Text) (i j : ℤ) (e' : SeenEntry) (v : Plain) → entry_of e' ≡ env.shared (entry_of e) → operation.slice i j e.seen.value ≡ operation.silent v → env.has_place new (map entry_of before.names) ≡ true →
       Did (gives new v false (env_of (record { names = set before.names at e'; room = before.room; allowed = before.allowed }))) [] (slice_in (env_of before) new name i j)
   cut new i j e' v same value room =
       let stands = there name before.names at e place is in
@@ -131,7 +141,7 @@ module _ (before : Envs) (name : Text) (at : ℕ) (e : Held) (place : env.place_
       let stands = there name before.names at e place is in
       rw stands.read (asked (env_of before) (ask-of e.seen.value) why no-told)
 
-module _ (before : Envs) (name : Text) {at : ℕ} {e : Held} (e' : Held) (place : env.place_of name (map entry_of before.names) ≡ Some at) (is : e ≡ get_or before.names at e)
+module _ (before : SeenEnv) (name : Text) {at : ℕ} {e : SeenEntry} (e' : SeenEntry) (place : env.place_of name (map entry_of before.names) ≡ Some at) (is : e ≡ get_or before.names at e)
     (n : Entry → ℕ) (alone : Entry → Plain → Bool) (run : Entry → Answer) (after : entry_of e' ≡ entry_after (alone (entry_of e)) (entry_of e) (run (entry_of e))) where
   -- a change that is done
   pub changed : Ok _ ≡ verdict (run (entry_of e)) →
@@ -161,7 +171,7 @@ both-refused before name other (Err found) why is =
     let same : why ≡ found = cc in
     record { env = refl; text = ap refusal same }
 
-module _ (before : Envs) (name other : Text) (at by : ℕ) (e f : Held)
+module _ (before : SeenEnv) (name other : Text) (at by : ℕ) (e f : SeenEntry)
     (place : env.place_of name (map entry_of before.names) ≡ Some at) (is : e ≡ get_or before.names at e)
     (place' : env.place_of other (map entry_of before.names) ≡ Some by) (is' : f ≡ get_or before.names by f) (tell : Plain → Plain → Told) where
   whole-both : ask_both (env_of before) name other tell ≡ told_both (env_of before) name other (tell e.seen.value f.seen.value)
