@@ -57,3 +57,10 @@ module _ (p : Literal → Bool) (name : Text) (names : List SeenEntry) (at : ℕ
       let back = ended found-bare in
       let fewer = length-remove names at within in
       record { bare = All-remove (λ x. units p x.seen ≡ 0) names at bare; sum = omega (arith, back, fewer) }
+
+  -- a name whose value another one takes the place of
+  pub given-bare : (e' : SeenEntry) (h h' : Purse) → units p e'.seen ≡ 0 → (units p e.seen ≡ 0 → h'.spare ≡ h.spare + 1) → Balances p 1 names (set names at e') h h'
+  given-bare e' h h' none ended =
+      let back = ended found-bare in
+      let long = length-set names at e' in
+      record { bare = bare-set p names at e' bare none; sum = omega (arith, back, long) }

@@ -1,11 +1,11 @@
 -- The flag and the cost of an entry after a change of its value, for a row of the table: no kind is named.
-use Rattle.std.proofs.Common.{◌≡◌, ℕ, ◌+◌, ◌*◌, ◌≤◌, ◌⊎◌, inl, inr, Bool, true, false, not, ◌&&◌, Result, Ok, Err, refl, ap, sym, ◌∙◌, arith, if◌then◌else◌}
+use Rattle.std.proofs.Common.{◌≡◌, ℕ, ◌+◌, ◌*◌, ◌≤◌, ◌⊎◌, inl, inr, Bool, true, false, not, ◌&&◌, Result, Ok, Err, refl, ap, sym, ◌∙◌, arith, subst, if◌then◌else◌}
 use Rattle.std.specs.Prelude.{⊤, IsOk, IfOk, OnOk, OnErr}
 use Rattle.cow_model.specs.Lexis.{Text}
 use Rattle.cow_model.specs.Operation.{Answer}
 use Rattle.cow_model.specs.Plain.{count, size, is_tree, max_count, same_plain}
 use Rattle.cow_model.specs.Purse.{Purse}
-use Rattle.cow_model.specs.Sharing.{Layer}
+use Rattle.cow_model.specs.Sharing.{Layer, both_cost_of}
 use Rattle.cow_model.specs.declared.memory.NoMemory.{NoMemory}
 use Rattle.cow_model.specs.declared.outcome.Entry.{Entry}
 use Rattle.cow_model.specs.declared.plain.Literal.{Literal}
@@ -17,6 +17,7 @@ use Rattle.cow_model.specs.Units.{units_of, nodes_of}
 use Rattle.cow_value.specs.Calls as value
 use Rattle.cow_value.specs.Seen.{Seen, Brings, units, copied_units}
 use Rattle.cow_model.specs.Turns.{Turn, turn_of, tells_of, TellsParts, alone_after}
+use Rattle.cow_model.proofs.Costs.{both-most}
 use Rattle.cow_model.proofs.Same.{same-self}
 use Rattle.cow_model.proofs.Counts.{size-count, small-after}
 use Rattle.cow_eval.proofs.Results.{on-err}
@@ -140,3 +141,13 @@ entry-costs p b t before after h h' r costs less small few nodes bare =
           let plain = bare (omega (arith, zero)) none in
           (omega (arith, hidden, plain, none, zero), omega (arith, none, zero, down, up));
     }
+
+-- the same with the cost before the atoms
+pub cost-first : (m n : ℕ) (a : Answer) {p : Literal → Bool} {brings : Type 0} {e e' : SeenEntry} {h h' : Purse} → EntryCosts p (allowed_for (n + m) a) brings e e' h h' → EntryCosts p (allowed_for (m + n) a) brings e e' h h'
+cost-first m n a {p} {brings} {e} {e'} {h} {h'} costs =
+    let same : n + m ≡ m + n = omega arith in
+    subst (λ k. EntryCosts p (allowed_for k a) brings e e' h h') same costs
+
+-- a change by another value costs no more than two copies an element
+pub both-few : (alone : Bool) (v : Plain) → count v ≤ max_count → both_cost_of alone v ≤ 2 * max_count
+both-few alone v small = let most = both-most alone v in omega (arith, most, small)

@@ -20,7 +20,7 @@ use Rattle.cow_model.specs.declared.value.Plain.{Plain}
 use Rattle.cow_value.specs.Calls as value
 use Rattle.cow_value.specs.Seen.{Seen, shared, units, given_by}
 use Rattle.cow_eval.specs.Entries.{SeenEntry, IsKept, Changes, EntryCosts, allowed_for}
-use Rattle.cow_eval.proofs.Flags.{copies-allowed, nodes-most}
+use Rattle.cow_eval.proofs.Flags.{copies-allowed, cost-first, nodes-most}
 
 refused-by : (a : Answer) (e : SeenEntry) {why : Refusal} → Some why ≡ refusal_in a → Changes (λ value. false) a e e [] [] (Ok (Err why))
 refused-by (Ok done) e is = cc
@@ -45,10 +45,10 @@ module _ (s : Layer) (e : SeenEntry) where
     module _ (p : Literal → Bool) (h h' h'' : Purse) (costs : value.Costs p (given_by p s (shared e.seen)) (turn_by_of s e.seen.value) (shared e.seen) v' (less 1 h) h' r)
         (ended : Moves (units p (shared e.seen)) 0 (more 1 h') h'') (back : h'.spare + 1 ≤ h''.spare) (one : 1 ≤ h.spare) where
       -- what it costs
-      pub itself-costs : EntryCosts p (allowed_for (added_of s e.seen.value + both_cost_of false e.seen.value) ((turn_by_of s e.seen.value).run e.seen.value)) ⊤ e
+      pub itself-costs : EntryCosts p (allowed_for (both_cost_of false e.seen.value + added_of s e.seen.value) ((turn_by_of s e.seen.value).run e.seen.value)) ⊤ e
           (record { name = e.name; seen = v'; flag = false }) h h''
-      itself-costs =
-          let a = (turn_by_of s e.seen.value).run e.seen.value in
+      itself-costs = cost-first _ _ _
+          (let a = (turn_by_of s e.seen.value).run e.seen.value in
           let rises = costs.moved.copied in
           let kept' = costs.moved.kept in
           let most = copies-allowed a (both_cost_of false e.seen.value) (added_of s e.seen.value) (IsOk r) (less 1 h) h' costs.free rises in
@@ -67,4 +67,4 @@ module _ (s : Layer) (e : SeenEntry) where
                 let fell = ended.falls in
                 let rose = ended.rises in
                 (omega (arith, hidden, plain, zero), omega (arith, zero, down, up, fell, rose, one));
-          }
+          })

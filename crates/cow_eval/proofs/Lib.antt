@@ -1,5 +1,7 @@
+pub mod Apart
 pub mod BareNames
 pub mod Costs
+pub mod FirstLine
 pub mod Flags
 pub mod Itself
 pub mod Places

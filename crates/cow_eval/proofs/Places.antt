@@ -94,3 +94,7 @@ module _ (name : Text) (names : List SeenEntry) (at : ℕ) (e : SeenEntry) (plac
       let there-now : entry_of e ≡ get_or (map entry_of names) at (entry_of e) = sym (get_or-map entry_of names at e ∙ ap entry_of (sym is)) in
       let alike = ap (λ n. bytes_eq n new) same ∙ ap (λ (x : Entry). bytes_eq x.name new) there-now in
       rw (map-set entry_of names at e', position_or_len-set (λ (x : Entry). bytes_eq x.name new) (map entry_of names) at (entry_of e') (entry_of e) alike, length-set (map entry_of names) at (entry_of e')) refl
+
+-- an entry with the value of another in its place: the values stay
+pub values-there : (names : List SeenEntry) (at : ℕ) (e e' : SeenEntry) → e ≡ get_or names at e → e'.seen ≡ e.seen → map (λ x. x.seen) (set names at e') ≡ map (λ x. x.seen) names
+values-there names at e e' is same = map-set_same (λ x. x.seen) names at e' e (same ∙ ap (λ x. x.seen) is)

@@ -1,21 +1,22 @@
 -- What a statement does to the entry of a name, as the definitions say it of the environment.
-use Rattle.std.proofs.Common.{◌≡◌, if◌then◌else◌, ℕ, ℤ, ◌+◌, ◌++◌, Bool, true, false, List, [], map, get_or, set, Some, Ok, Err, refl, ap, sym, ◌∙◌}
+use Rattle.std.specs.Prelude.{nat_lt}
+use Rattle.std.proofs.Common.{◌≡◌, if◌then◌else◌, ℕ, ℤ, ◌+◌, ◌-◌, ◌<◌, ◌++◌, Bool, true, false, List, [], length, arith, map, get_or, set, Some, Ok, Err, refl, ap, sym, ◌∙◌}
 use Rattle.std.proofs.lemmas.List.{append-nil}
 use Rattle.std.specs.List.{remove}
 use Rattle.std.specs.Str.{bytes_eq}
 use Rattle.cow_model.specs.Lexis.{Text}
 use Rattle.cow_model.specs.Env as env
 use Rattle.cow_model.specs.Operation.{Answer}
-use Rattle.cow_model.specs.Printed.{refusal}
+use Rattle.cow_model.specs.Printed.{refusal, line, plain_text}
 use Rattle.cow_model.specs.Operation as operation
 use Rattle.cow_model.specs.Query.{Told}
 use Rattle.cow_model.specs.Step as step
-use Rattle.cow_model.specs.Step.{becomes, with_entry, with_found, sliced, gives, settles, second_in, assign_in, slice_in, discard_in, told, ask, told_both, ask_both}
+use Rattle.cow_model.specs.Step.{becomes, with_entry, with_found, sliced, gives, settles, second_in, assign_in, slice_in, discard_in, told, ask, told_both, ask_both, print_in, show_in}
 use Rattle.cow_model.specs.declared.outcome.Entry.{Entry}
 use Rattle.cow_model.specs.declared.outcome.Environment.{Environment}
 use Rattle.cow_model.specs.declared.outcome.Outcome.{Outcome}
 use Rattle.cow_model.specs.declared.refusal.Refusal.{Refusal}
-use Rattle.cow_model.specs.declared.refusal.Refusal.TheVariants.{Full}
+use Rattle.cow_model.specs.declared.refusal.Refusal.TheVariants.{Full, TextFull}
 use Rattle.cow_model.specs.declared.value.Plain.{Plain}
 use Rattle.cow_model.specs.Answers.{verdict, reply_of, told_verdict, told_reply}
 use Rattle.cow_eval.specs.Entries.{SeenEntry, entry_of, entry_after}
@@ -85,7 +86,33 @@ unplaced before name other (Err why) room = record { env = refl; text = refl }
 pub second : (before : Environment) (name other : Text) (v : Plain) → env.has_place name before.names ≡ true → Did (gives name v false (settles other before)) [] (second_in before name other v)
 second before name other v place = rw place (record { env = refl; text = refl })
 
+-- a line for which there is room
+fits-print : (before : Environment) (text : Text) (left : ℕ) → left + length text ≡ before.room → print_in before text ≡ record { env = record before { room = left }; text = text }
+fits-print before text left sum =
+    let no : nat_lt before.room (length text) ≡ false = search (arith, sum) in
+    let rest : before.room - length text ≡ left = omega (arith, sum) in
+    rw (no, rest) refl
+
+-- and one for which there is none
+longer-print : (before : Environment) (text : Text) → before.room < length text → print_in before text ≡ step.refused before TextFull
+longer-print before text longer =
+    let yes : nat_lt before.room (length text) ≡ true = search (arith, longer) in
+    rw yes refl
+
 module _ (before : SeenEnv) (name : Text) (at : ℕ) (e : SeenEntry) (place : env.place_of name (map entry_of before.names) ≡ Some at) (is : e ≡ get_or before.names at e) where
+  -- what `show` prints
+  pub printed : (left : ℕ) → left + length (line (plain_text e.seen.value)) ≡ before.room →
+      Did (env_of (record { names = before.names; room = left; allowed = before.allowed })) (line (plain_text e.seen.value)) (show_in (env_of before) name)
+  printed left sum =
+      let whole = fits-print (env_of before) (line (plain_text e.seen.value)) left sum in
+      rw ((there name before.names at e place is).read, whole) (record { env = refl; text = refl })
+
+  -- what it doesn't print
+  pub unprinted : before.room < length (line (plain_text e.seen.value)) → Did (env_of before) (refusal TextFull) (show_in (env_of before) name)
+  unprinted longer =
+      let whole = longer-print (env_of before) (line (plain_text e.seen.value)) longer in
+      rw ((there name before.names at e place is).read, whole) (record { env = refl; text = refl })
+
   -- a name whose flag falls
   pub settled : (e' : SeenEntry) → entry_of e' ≡ env.shared (entry_of e) → env_of (record { names = set before.names at e'; room = before.room; allowed = before.allowed }) ≡ settles name (env_of before)
   settled e' same = ap (λ names. record { names = names; room = before.room; allowed = before.allowed }) (settled-there name before.names at e place is e' same)

@@ -29,7 +29,7 @@ entry_of e = record { name = e.name; value = e.seen.value; alone = e.flag }
 
 -- the flag of a value beside another, which isn't alone where that is itself
 abbrev pub flag_beside : Bool → Bool → Bool
-flag_beside is_one flag = flag && not is_one
+flag_beside is_one flag = not is_one && flag
 
 -- the entry after a statement, of which `alone` tells the flag: a refused one changes nothing
 abbrev pub entry_after : (Plain → Bool) → Entry → Answer → Entry

@@ -1,14 +1,17 @@
 -- What contracts see of an environment over counted values, and what statements do to it.
-use Rattle.std.specs.Prelude.{◌≡◌, ℕ, ◌+◌, ◌*◌, ◌<◌, ◌≤◌, ◌^◌, ◌++◌, Bool, List, All, length, map, ⊤, Result, OnOk, OnErr}
+use Rattle.std.specs.Prelude.{◌≡◌, ℕ, ◌+◌, ◌*◌, ◌<◌, ◌≤◌, ◌^◌, ◌++◌, Bool, List, [], All, length, map, get_or, set, ⊤, Result, OnOk, OnErr}
 use Rattle.cow_model.specs.Lexis.{Text}
 use Rattle.cow_model.specs.Plain.{stop}
 use Rattle.cow_model.specs.Purse.{Purse, RisesWithin}
+use Rattle.cow_model.specs.Sharing.{Layer, both_cost_of}
+use Rattle.cow_model.specs.Turns.{turn_by_of, added_of, alone_after}
 use Rattle.cow_model.specs.declared.memory.NoMemory.{NoMemory}
 use Rattle.cow_model.specs.declared.plain.Literal.{Literal}
 use Rattle.cow_model.specs.declared.outcome.Environment.{Environment}
 use Rattle.cow_model.specs.declared.outcome.Outcome.{Outcome}
+use Rattle.cow_model.specs.declared.refusal.Refusal.{Refusal}
 use Rattle.cow_value.specs.Seen.{units}
-use Rattle.cow_eval.specs.Entries.{SeenEntry, entry_of, most_units}
+use Rattle.cow_eval.specs.Entries.{SeenEntry, IsKept, Changes, EntryCosts, allowed_for, entry_of, most_units}
 
 -- the names of a block in their order, the bytes that `show` may still print, and the copies that are allowed so far
 pub record SeenEnv : Type 0 where
@@ -50,8 +53,42 @@ abbrev pub Runs : (Literal → Bool) → (brings_none : Type 0) → ℕ → Outc
 Runs counted brings_none literals outcome before after said said' h h' r =
     Does counted brings_none literals 1 outcome (said' ≡ said) before after said said' h h' r
 
--- so many statements may be run: what is allowed stays a number of 64 bits, no slice stops at 2^31, and the units are there
-pub record IsReady (n : ℕ) (env : SeenEnv) (h : Purse) : Type 0 where
-  pub allowed : env.allowed + n * most_units < 2 ^ 64
+-- a line that is no longer than the room was appended, and this much is left
+pub record Fits (line : Text) (room left : ℕ) (said said' : Text) : Type 0 where
+  pub text : said' ≡ said ++ line
+  pub rest : left + length line ≡ room
+
+-- what a statement does that only reads values and sets flags: nothing is copied, and no units are used
+pub record Reads (outcome : Outcome) (before after : SeenEnv) (said said' : Text) (r : Result ⊤ NoMemory) : Type 0 where
+  pub env : OnOk r (env_of after ≡ outcome.env)
+  pub text : OnOk r (said' ≡ said ++ outcome.text)
+  pub kept : OnErr r (said' ≡ said)
+  pub allowed : after.allowed ≡ before.allowed
+  pub values : map (λ e. e.seen) after.names ≡ map (λ e. e.seen) before.names
+
+-- a change of the value at one place by that at another: no other entry changes, and nothing is printed
+pub record ChangesBy (counted : Literal → Bool) (s : Layer) (at by : ℕ) (before after : List SeenEntry) (h h' : Purse)
+    (r : Result (Result ⊤ Refusal) NoMemory) : Type 0 where
+  pub old : SeenEntry
+  pub other : SeenEntry
+  pub new : SeenEntry
+  pub old_is : old ≡ get_or before at old
+  pub other_is : other ≡ get_or before by other
+  pub names : after ≡ set before at new
+  pub kept : IsKept new
+  pub does : Changes (alone_after (turn_by_of s other.seen.value) old.flag old.seen.value)
+      ((turn_by_of s other.seen.value).run old.seen.value) old new [] [] r
+  pub costs : EntryCosts counted (allowed_for (both_cost_of old.flag old.seen.value + added_of s other.seen.value)
+      ((turn_by_of s other.seen.value).run old.seen.value)) (units counted other.seen ≡ 0) old new h h'
+
+-- n statements may be run: what is allowed stays a number of 64 bits, no slice stops at 2^31, and the units are there
+pub record CanRun (n : ℕ) (env : SeenEnv) (h : Purse) : Type 0 where
+  pub allowed : env.allowed + n * most_units ≤ 2 ^ 63 + most_units
   pub near : All (λ e. stop e.seen.value + n ≤ 2 ^ 31) env.names
   pub spare : 2 ^ 39 + n * most_units ≤ h.spare
+
+-- one statement may be run whose literals are allowed already
+pub record CanAct (env : SeenEnv) (h : Purse) : Type 0 where
+  pub allowed : env.allowed ≤ 2 ^ 63 + most_units
+  pub near : All (λ e. stop e.seen.value + 1 ≤ 2 ^ 31) env.names
+  pub spare : 2 ^ 39 + most_units ≤ h.spare

@@ -13,13 +13,22 @@ use Rattle.cow_model.specs.declared.outcome.Environment.{Environment}
 use Rattle.cow_model.specs.declared.outcome.Outcome.{Outcome}
 use Rattle.cow_model.specs.declared.statement.Statement.{Statement, out-Statement}
 use Rattle.cow_model.specs.declared.statement.Statement.TheOpen.{Statement-F}
-use Rattle.cow_value.specs.Built.{is_built}
+use Rattle.cow_value.specs.Built.{is_built, line_of}
 
 -- a statement of a script that can be run: it is built, no text has more than 255 bytes, and there are at most 65,536 literals
 pub record IsRunnable (s : Layer) : Type 0 where
   pub built : is_built s ≡ true
   pub texts : FitsTexts s
   pub few : literals s ≤ max_count
+
+-- the line of the first statement that isn't built
+abbrev pub unbuilt_line : List Statement → Option ℕ
+unbuilt_line [] = None
+unbuilt_line (s ∷ ss) = if is_built (out-Statement s) then unbuilt_line ss else Some (line_of (out-Statement s))
+
+-- a statement is built
+abbrev pub IsBuilt : Statement → Type 0
+IsBuilt s = is_built (out-Statement s) ≡ true
 
 -- the row of a change by another value, done to two names: one name for both isn't alone, before and after
 abbrev pub turned_by : Environment → Text → Text → Layer → Outcome

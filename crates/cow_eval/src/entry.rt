@@ -20,7 +20,7 @@ ghost use Rattle.cow_eval.specs.Entries as entries;
 
 use cow_cell::{Holder, Stock};
 use cow_model::{Name, NoMemory, Refusal, Statement};
-use cow_value::Values;
+use cow_value::{Values, added};
 use std::alloc::Global;
 use std::marker::{Model, PhantomData};
 use std::mem;
@@ -77,7 +77,8 @@ impl<V: Values<Q>, Q: Stock> Entry<V, Q> {
 
     /// The most copies of a statement, beside its literals.
     pub fn cost(&self, statement: &Statement) -> usize
-        ensures { result ≡ (turn_of (out-Statement statement.now)).cost self.now.flag self.now.seen.value }
+        ensures cost { result ≡ (turn_of (out-Statement statement.now)).cost self.now.flag self.now.seen.value }
+        ensures small { result ≤ 131073 }
     {
         self.value.cost(statement, self.alone)
     }
@@ -85,19 +86,18 @@ impl<V: Values<Q>, Q: Stock> Entry<V, Q> {
     /// The most copies of a change by another value, beside those of its elements. `is_one` says that
     /// the other is this very value, which isn't alone then.
     pub fn both_cost(&self, is_one: bool) -> usize
-        ensures { result ≡ both_cost_of (entries.flag_beside is_one self.now.flag) self.now.seen.value }
+        ensures cost { result ≡ both_cost_of (entries.flag_beside is_one self.now.flag) self.now.seen.value }
+        ensures small { result ≤ 131072 }
     {
-        self.value.both_cost(self.alone && !is_one)
+        self.value.both_cost(!is_one && self.alone)
     }
 
     /// The most atoms of the value that a change of another by it adds.
     pub fn added(&self, statement: &Statement) -> usize
-        ensures { result ≡ added_of (out-Statement statement.now) self.now.seen.value }
+        ensures atoms { result ≡ added_of (out-Statement statement.now) self.now.seen.value }
+        ensures small { result ≤ 131072 }
     {
-        match statement {
-            Statement::Inter { .. } | Statement::Minus { .. } | Statement::Within { .. } => 0,
-            _ => self.value.size(),
-        }
+        added(statement, &self.value)
     }
 
     /// A second value; neither is alone. One step, and no memory.
@@ -138,7 +138,8 @@ impl<V: Values<Q>, Q: Stock> Entry<V, Q> {
 
     /// Its flag becomes false.
     pub fn settle(&mut self)
-        ensures { self.new ≡ record self.old { flag = false } }
+        ensures entry { self.new ≡ record self.old { flag = false } }
+        ensures kept { entries.IsKept self.new }
     {
         self.alone = false;
     }
@@ -216,6 +217,7 @@ impl<V: Values<Q>, Q: Stock> Entry<V, Q> {
             (alone_after (turn_of (out-Statement statement.now)) self.old.flag self.old.seen.value)
             ((turn_of (out-Statement statement.now)).run self.old.seen.value)
             self.old self.new text.old.items text.new.items result }
+        ensures kept { entries.IsKept self.new }
         ensures costs { EntryCosts V.counted
             (allowed_for (literals (out-Statement statement.now)
             + (turn_of (out-Statement statement.now)).cost self.old.flag self.old.seen.value)
@@ -245,9 +247,10 @@ impl<V: Values<Q>, Q: Stock> Entry<V, Q> {
             self.old.flag self.old.seen.value)
             ((turn_by_of (out-Statement statement.now) other.now.seen.value).run self.old.seen.value)
             self.old self.new [] [] result }
+        ensures kept { entries.IsKept self.new }
         ensures costs { EntryCosts V.counted
-            (allowed_for (added_of (out-Statement statement.now) other.now.seen.value
-            + both_cost_of self.old.flag self.old.seen.value)
+            (allowed_for (both_cost_of self.old.flag self.old.seen.value
+            + added_of (out-Statement statement.now) other.now.seen.value)
             ((turn_by_of (out-Statement statement.now) other.now.seen.value).run self.old.seen.value))
             (units V.counted other.now.seen ≡ 0) self.old self.new h.old h.new }
     {
@@ -272,9 +275,10 @@ impl<V: Values<Q>, Q: Stock> Entry<V, Q> {
         ensures does { Changes (λ value. false)
             ((turn_by_of (out-Statement statement.now) self.old.seen.value).run self.old.seen.value)
             self.old self.new [] [] result }
+        ensures kept { entries.IsKept self.new }
         ensures costs { EntryCosts V.counted
-            (allowed_for (added_of (out-Statement statement.now) self.old.seen.value
-            + both_cost_of false self.old.seen.value)
+            (allowed_for (both_cost_of false self.old.seen.value
+            + added_of (out-Statement statement.now) self.old.seen.value)
             ((turn_by_of (out-Statement statement.now) self.old.seen.value).run self.old.seen.value))
             ⊤ self.old self.new h.old h.new }
     {

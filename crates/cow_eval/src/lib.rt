@@ -12,14 +12,14 @@
 //! statement, and leaves the flag false.
 #![tactic(auto)]
 
-//mod both;
-//mod built;
+mod both;
+mod built;
 mod entry;
 mod env;
 mod names;
-//mod run;
-//mod statement;
+mod run;
+mod statement;
 
-//pub use built::first_unbuilt;
+pub use built::first_unbuilt;
 pub use env::Env;
-//pub use run::{run_block, run_statement};
+pub use run::run_statement;

@@ -1,5 +1,5 @@
--- The statements that are built, kind by kind and word by word.
-use Rattle.std.specs.Prelude.{Bool, true, false}
+-- The statements that are built, kind by kind and word by word, and where each stands.
+use Rattle.std.specs.Prelude.{ℕ, Bool, true, false}
 use Rattle.cow_model.specs.Sharing.{Layer}
 use Rattle.cow_model.specs.declared.statement.Kind.{Kind}
 use Rattle.cow_model.specs.declared.statement.Kind.TheVariants as kind
@@ -35,3 +35,48 @@ is_built (Statement-F.Lazy l n i verb) = false
 is_built (Statement-F.Fork l tasks) = false
 is_built (Statement-F.Give l n m) = false
 is_built s = true
+
+-- the line where a statement stands
+abbrev pub line_of : Layer → ℕ
+line_of (Statement-F.Let l x1 x2 x3) = l
+line_of (Statement-F.Assign l x1 x2) = l
+line_of (Statement-F.Slice l x1 x2 x3 x4) = l
+line_of (Statement-F.Discard l x1) = l
+line_of (Statement-F.Show l x1) = l
+line_of (Statement-F.Count l x1) = l
+line_of (Statement-F.Append l x1 x2) = l
+line_of (Statement-F.Prepend l x1 x2) = l
+line_of (Statement-F.Insert l x1 x2) = l
+line_of (Statement-F.InsertAt l x1 x2 x3) = l
+line_of (Statement-F.Update l x1 x2) = l
+line_of (Statement-F.Remove l x1 x2) = l
+line_of (Statement-F.RemoveAt l x1 x2) = l
+line_of (Statement-F.Set l x1 x2 x3) = l
+line_of (Statement-F.Get l x1 x2) = l
+line_of (Statement-F.At l x1 x2) = l
+line_of (Statement-F.Has l x1 x2) = l
+line_of (Statement-F.Place l x1 x2) = l
+line_of (Statement-F.Pop l x1 x2) = l
+line_of (Statement-F.Peek l x1 x2) = l
+line_of (Statement-F.Replace l x1 x2 x3) = l
+line_of (Statement-F.Swap l x1 x2 x3) = l
+line_of (Statement-F.Reverse l x1) = l
+line_of (Statement-F.Rotate l x1 x2) = l
+line_of (Statement-F.Splice l x1 x2 x3 x4) = l
+line_of (Statement-F.Reserve l x1 x2) = l
+line_of (Statement-F.Clear l x1) = l
+line_of (Statement-F.Rebase l x1) = l
+line_of (Statement-F.Extend l x1 x2) = l
+line_of (Statement-F.Union l x1 x2) = l
+line_of (Statement-F.Inter l x1 x2) = l
+line_of (Statement-F.Minus l x1 x2) = l
+line_of (Statement-F.SymDiff l x1 x2) = l
+line_of (Statement-F.Subset l x1 x2) = l
+line_of (Statement-F.Disjoint l x1 x2) = l
+line_of (Statement-F.Equal l x1 x2) = l
+line_of (Statement-F.Put l x1 x2 x3) = l
+line_of (Statement-F.Merge l x1 x2 x3) = l
+line_of (Statement-F.Within l x1 x2) = l
+line_of (Statement-F.Lazy l x1 x2 x3) = l
+line_of (Statement-F.Fork l x1) = l
+line_of (Statement-F.Give l x1 x2) = l

@@ -60,3 +60,19 @@ returns-clause-costs g c =
     let e : SeenEntry = record { name = c.self.inside.name; seen = g.V.Shown.seen c.self.inside.value; flag = c.self.inside.alone } in
     let e' : SeenEntry = record { name = e.name; seen = g.V.Shown.seen r.new.self; flag = c.flag_after-self-inside.result } in
     rw (← c.self.view_is) (entry-costs p (literals_of p s) t e e' c.args.h.now r.new.h r.result r.ensures.paid (cost-kept s e.seen.alone e.flag e.seen.value c.self.invariant.alone) c.self.invariant.small (omega (arith, c.requires.few)) (omega arith) (λ none brings. after-call p _ r.result e.seen.value e'.seen.value (t.run e.seen.value) r.ensures.does.value r.ensures.does.kept none (turn-bare p s e.seen.value none brings)))
+
+pub returns-then-self-clause-kept : goal.returns-then-self-clause-kept
+returns-then-self-clause-kept g c =
+    let s = out-Statement c.args.statement.now in
+    let t = turn_of s in
+    let r = c.change in
+    let e : SeenEntry = record { name = c.self.inside.name; seen = g.V.Shown.seen c.self.inside.value; flag = c.self.inside.alone } in
+    alone-kept t e c.self.invariant (g.V.Shown.seen r.new.self) r.result r.ensures.does (turn-small s e.seen.value c.self.invariant.small)
+
+pub returns-clause-kept : goal.returns-clause-kept
+returns-clause-kept g c =
+    let s = out-Statement c.args.statement.now in
+    let t = turn_of s in
+    let r = c.change-result in
+    let e : SeenEntry = record { name = c.self.inside.name; seen = g.V.Shown.seen c.self.inside.value; flag = c.self.inside.alone } in
+    rw c.flag_after-self-inside.ensures (told-kept t e c.self.invariant (g.V.Shown.seen r.new.self) r.result r.ensures.does (turn-small s e.seen.value c.self.invariant.small) c.parts-parts.result c.parts-parts.ensures)

@@ -6,7 +6,7 @@ use Rattle.cow_model.proofs.Costs.{both-kept, added-most}
 use Rattle.cow_model.proofs.Counts.{turn_by-small}
 use Rattle.cow_model.proofs.Bare.{turn_by-bare, after-call}
 use Rattle.cow_eval.specs.Entries.{SeenEntry}
-use Rattle.cow_eval.proofs.Flags.{alone-kept, told-kept, alone-changes, told-changes, entry-costs, nodes-most}
+use Rattle.cow_eval.proofs.Flags.{alone-kept, told-kept, alone-changes, told-changes, entry-costs, cost-first, nodes-most}
 use Rattle.cow_eval.proofs.entry.Entry.change_by.Goals as goal
 
 pub invariant_of-self : goal.invariant_of-self
@@ -33,7 +33,7 @@ returns-then-self-clause-costs g c =
     let r = c.change_by in
     let e : SeenEntry = record { name = c.self.inside.name; seen = g.V.Shown.seen c.self.inside.value; flag = c.self.inside.alone } in
     let e' : SeenEntry = record { name = e.name; seen = g.V.Shown.seen r.new.self; flag = e.flag } in
-    rw (← c.self.view_is, ← c.other.view_is) (entry-costs p (given_by p s (g.V.Shown.seen c.other.inside.value)) t e e' c.args.h.now r.new.h r.result r.ensures.paid (both-kept e.seen.alone e.flag e.seen.value c.self.invariant.alone) c.self.invariant.small (added-most s (g.V.Shown.seen c.other.inside.value).value c.other.invariant.small) (omega (arith, nodes-most (g.V.Shown.seen c.other.inside.value).value, c.other.invariant.small)) (λ none brings. after-call p _ r.result e.seen.value e'.seen.value (t.run e.seen.value) r.ensures.does.value r.ensures.does.kept none (turn_by-bare p s e.seen.value (g.V.Shown.seen c.other.inside.value).value none (omega (arith, brings)))))
+    rw (← c.self.view_is, ← c.other.view_is) (cost-first _ _ _ (entry-costs p (given_by p s (g.V.Shown.seen c.other.inside.value)) t e e' c.args.h.now r.new.h r.result r.ensures.paid (both-kept e.seen.alone e.flag e.seen.value c.self.invariant.alone) c.self.invariant.small (added-most s (g.V.Shown.seen c.other.inside.value).value c.other.invariant.small) (omega (arith, nodes-most (g.V.Shown.seen c.other.inside.value).value, c.other.invariant.small)) (λ none brings. after-call p _ r.result e.seen.value e'.seen.value (t.run e.seen.value) r.ensures.does.value r.ensures.does.kept none (turn_by-bare p s e.seen.value (g.V.Shown.seen c.other.inside.value).value none (omega (arith, brings))))))
 
 pub invariant_of-self-2 : goal.invariant_of-self-2
 invariant_of-self-2 g c =
@@ -59,4 +59,20 @@ returns-clause-costs g c =
     let r = c.change_by-result in
     let e : SeenEntry = record { name = c.self.inside.name; seen = g.V.Shown.seen c.self.inside.value; flag = c.self.inside.alone } in
     let e' : SeenEntry = record { name = e.name; seen = g.V.Shown.seen r.new.self; flag = c.flag_after-self-inside.result } in
-    rw (← c.self.view_is, ← c.other.view_is) (entry-costs p (given_by p s (g.V.Shown.seen c.other.inside.value)) t e e' c.args.h.now r.new.h r.result r.ensures.paid (both-kept e.seen.alone e.flag e.seen.value c.self.invariant.alone) c.self.invariant.small (added-most s (g.V.Shown.seen c.other.inside.value).value c.other.invariant.small) (omega (arith, nodes-most (g.V.Shown.seen c.other.inside.value).value, c.other.invariant.small)) (λ none brings. after-call p _ r.result e.seen.value e'.seen.value (t.run e.seen.value) r.ensures.does.value r.ensures.does.kept none (turn_by-bare p s e.seen.value (g.V.Shown.seen c.other.inside.value).value none (omega (arith, brings)))))
+    rw (← c.self.view_is, ← c.other.view_is) (cost-first _ _ _ (entry-costs p (given_by p s (g.V.Shown.seen c.other.inside.value)) t e e' c.args.h.now r.new.h r.result r.ensures.paid (both-kept e.seen.alone e.flag e.seen.value c.self.invariant.alone) c.self.invariant.small (added-most s (g.V.Shown.seen c.other.inside.value).value c.other.invariant.small) (omega (arith, nodes-most (g.V.Shown.seen c.other.inside.value).value, c.other.invariant.small)) (λ none brings. after-call p _ r.result e.seen.value e'.seen.value (t.run e.seen.value) r.ensures.does.value r.ensures.does.kept none (turn_by-bare p s e.seen.value (g.V.Shown.seen c.other.inside.value).value none (omega (arith, brings))))))
+
+pub returns-then-self-clause-kept : goal.returns-then-self-clause-kept
+returns-then-self-clause-kept g c =
+    let s = out-Statement c.args.statement.now in
+    let t = turn_by_of s (g.V.Shown.seen c.other.inside.value).value in
+    let r = c.change_by in
+    let e : SeenEntry = record { name = c.self.inside.name; seen = g.V.Shown.seen c.self.inside.value; flag = c.self.inside.alone } in
+    alone-kept t e c.self.invariant (g.V.Shown.seen r.new.self) r.result r.ensures.does (turn_by-small s e.seen.value (g.V.Shown.seen c.other.inside.value).value c.self.invariant.small)
+
+pub returns-clause-kept : goal.returns-clause-kept
+returns-clause-kept g c =
+    let s = out-Statement c.args.statement.now in
+    let t = turn_by_of s (g.V.Shown.seen c.other.inside.value).value in
+    let r = c.change_by-result in
+    let e : SeenEntry = record { name = c.self.inside.name; seen = g.V.Shown.seen c.self.inside.value; flag = c.self.inside.alone } in
+    rw c.flag_after-self-inside.ensures (told-kept t e c.self.invariant (g.V.Shown.seen r.new.self) r.result r.ensures.does (turn_by-small s e.seen.value (g.V.Shown.seen c.other.inside.value).value c.self.invariant.small) c.parts_by-parts.result c.parts_by-parts.ensures)

@@ -25,3 +25,10 @@ returns-clause-costs g c =
     let costs = rw (c.copy-other.ensures.copy, c.copy-other.ensures.same, c.copy-other.ensures.spent) at c.change_by-result.ensures.paid in
     let ended = rw c.copy-other.ensures.copy at c.end.ensures.moved in
     rw (← c.self.view_is) (itself-costs s e c.self.invariant (g.V.Shown.seen c.change_by-result.new.self) c.change_by-result.result does g.V.Shown.counted c.args.h.now c.change_by-result.new.h c.end.new.h costs ended c.end.ensures.never_less (omega (arith, c.requires.spare)))
+
+pub returns-clause-kept : goal.returns-clause-kept
+returns-clause-kept g c =
+    let s = out-Statement c.args.statement.now in
+    let e : SeenEntry = record { name = c.self.inside.name; seen = g.V.Shown.seen c.self.inside.value; flag = c.self.inside.alone } in
+    let does = rw (c.copy-other.ensures.copy, c.copy-other.ensures.same) at c.change_by-result.ensures.does in
+    itself-kept s e c.self.invariant (g.V.Shown.seen c.change_by-result.new.self) c.change_by-result.result does
