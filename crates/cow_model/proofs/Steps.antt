@@ -24,6 +24,7 @@ use Rattle.cow_model.specs.Plain.{max_count}
 use Rattle.cow_model.specs.Printed.{line, plain_text, list_text}
 use Rattle.cow_model.specs.Query as query
 use Rattle.cow_model.specs.Query.{Told}
+use Rattle.cow_model.specs.Run.{run_layer}
 use Rattle.cow_model.specs.Sharing.{Layer, literals}
 use Rattle.cow_model.specs.Step.{settles, with_found, with_entry, second_in, sliced, print_in, told, ask, told_both, ask_both, becomes, turned, change_by, view_in, shape_of, through, lazy_at, asking, changing_by, changing, act, step}
 use Rattle.cow_model.specs.Turns.{Turn, turn_of, turn_by_of}
@@ -232,3 +233,13 @@ module _ (Q P : Plain → Type 0) (law : Leads Q P) (env : Environment) (before 
 pub step-keeps : (Q P : Plain → Type 0) → Leads Q P → (env : Environment) (shapes : List Shape) (s : Layer)
     → literals s ≤ max_count → Values Q env.names → Values P (step env shapes s).env.names
 step-keeps Q P law env shapes s few before = act-keeps Q P law (allow (literals s) env) before shapes s few
+
+-- whether a statement is a fork
+abbrev pub is_fork : Layer → Bool
+is_fork (Statement-F.Fork l tasks) = true
+is_fork s = false
+
+-- in the main block a statement that is no fork does what a step does
+pub layer-step : (env : Environment) (shapes : List Shape) (s : Layer) → is_fork s ≡ false → run_layer env shapes s ≡ step env shapes s
+layer-step env shapes (Statement-F.Fork l tasks) none = cc
+layer-step env shapes s none = refl
