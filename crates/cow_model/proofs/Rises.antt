@@ -1,5 +1,5 @@
 -- How many copies more a statement that is no fork may allow: its literals, and four for each element of a value.
-use Rattle.std.proofs.Common.{◌≡◌, ℕ, ◌+◌, ◌*◌, ◌^◌, ◌≤◌, ℤ, Bool, true, false, List, length, Option, Some, None, Ok, Err, All, refl, arith}
+use Rattle.std.proofs.Common.{◌≡◌, ℕ, ◌+◌, ◌*◌, ◌^◌, ◌≤◌, ℤ, Bool, true, false, List, length, Option, Some, None, Ok, Err, refl, arith}
 use Rattle.std.specs.Prelude.{nat_lt, if◌then◌else◌}
 use Rattle.std.specs.Str.{bytes_eq}
 use Rattle.cow_model.specs.declared.outcome.Entry.{Entry}
@@ -21,7 +21,7 @@ use Rattle.cow_model.specs.Plain.{count, size, max_count}
 use Rattle.cow_model.specs.Printed.{line, plain_text, list_text}
 use Rattle.cow_model.specs.Query as query
 use Rattle.cow_model.specs.Query.{Told}
-use Rattle.cow_model.specs.Sharing.{Layer, literals, both_cost, both_cost_of}
+use Rattle.cow_model.specs.Sharing.{Layer, literals, both_cost}
 use Rattle.cow_model.specs.Step.{settles, with_found, with_entry, second_in, sliced, print_in, told, ask, told_both, ask_both, becomes, turned, as_changed, change_by, view_in, shape_of, through, lazy_at, asking, changing_by, changing, act, step}
 use Rattle.cow_model.specs.Turns.{turn_of}
 use Rattle.cow_model.proofs.Costs.{cost-most, both-most}

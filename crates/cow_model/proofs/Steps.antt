@@ -1,5 +1,5 @@
 -- What holds of the values of all names before a statement, and what holds of them after it.
-use Rattle.std.proofs.Common.{◌≡◌, ℕ, ◌≤◌, ℤ, Bool, true, false, List, length, slice_get, Option, Some, None, Ok, Err, All, refl}
+use Rattle.std.proofs.Common.{◌≡◌, ℕ, ◌≤◌, ℤ, Bool, true, false, List, length, Option, Some, None, Ok, Err, All, refl}
 use Rattle.std.specs.Prelude.{nat_lt, if◌then◌else◌}
 use Rattle.std.specs.Str.{bytes_eq}
 use Rattle.std.proofs.lemmas.List.Elements.{All-set, All-weaker}
@@ -15,7 +15,7 @@ use Rattle.cow_model.specs.declared.statement.Verb.TheVariants as verb
 use Rattle.cow_model.specs.declared.value.Plain.{Plain}
 use Rattle.cow_model.specs.declared.value.Plain.TheVariants.{Array, Slice, Deque, Set, Dict, OSet, ODict, Heap, TSet, TDict}
 use Rattle.cow_model.specs.Answers.{value_after}
-use Rattle.cow_model.specs.Env.{place_of, entry_at, has_place, given_at, without_at, settled_at, settled, renamed, allow}
+use Rattle.cow_model.specs.Env.{place_of, entry_at, has_place, given_at, without_at, settled_at, settled, allow}
 use Rattle.cow_model.specs.Lazy.{view}
 use Rattle.cow_model.specs.Lexis.{Text}
 use Rattle.cow_model.specs.Operation as operation
@@ -27,7 +27,7 @@ use Rattle.cow_model.specs.Query.{Told}
 use Rattle.cow_model.specs.Run.{run_layer}
 use Rattle.cow_model.specs.Sharing.{Layer, literals}
 use Rattle.cow_model.specs.Step.{settles, with_found, with_entry, second_in, sliced, print_in, told, ask, told_both, ask_both, becomes, turned, change_by, view_in, shape_of, through, lazy_at, asking, changing_by, changing, act, step}
-use Rattle.cow_model.specs.Turns.{Turn, turn_of, turn_by_of}
+use Rattle.cow_model.specs.Turns.{turn_of, turn_by_of}
 use Rattle.cow_model.proofs.ListSteps.{All-push, All-at, All-remove}
 
 -- something holds of the values of all names
