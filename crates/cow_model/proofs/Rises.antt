@@ -19,13 +19,13 @@ use Rattle.cow_model.specs.Operation as operation
 use Rattle.cow_model.specs.Operation.{Answer, index}
 use Rattle.cow_model.specs.Plain.{count, size, max_count}
 use Rattle.cow_model.specs.Printed.{line, plain_text, list_text}
-use Rattle.cow_model.specs.Query as query
 use Rattle.cow_model.specs.Query.{Told}
 use Rattle.cow_model.specs.Sharing.{Layer, literals, both_cost}
-use Rattle.cow_model.specs.Step.{settles, with_found, with_entry, second_in, sliced, print_in, told, ask, told_both, ask_both, becomes, turned, as_changed, change_by, view_in, shape_of, through, lazy_at, asking, changing_by, changing, act, step}
+use Rattle.cow_model.specs.Step.{settles, with_found, with_entry, second_in, sliced, print_in, told, told_both, becomes, as_changed, view_in, shape_of, through, lazy_at, act, step}
 use Rattle.cow_model.specs.Turns.{turn_of}
 use Rattle.cow_model.proofs.Costs.{cost-most, both-most}
 use Rattle.cow_model.proofs.Counts.{size-count}
+use Rattle.cow_model.proofs.StepParts.{Parts, changing-holds}
 use Rattle.cow_model.proofs.Steps.{Values, value-has}
 
 -- at most four copies more for each element of a value are allowed
@@ -111,62 +111,15 @@ module _ (env : Environment) (small : Values (λ v. count v ≤ max_count) env.n
   on-entry : (name : Text) (run : Entry → Outcome) → ((e : Entry) → count e.value ≤ max_count → Rises env (run e)) → Rises env (with_entry env name run)
   on-entry name run h = on-found name (entry_at (place_of name env.names) env.names) run refl h
 
-  -- a statement that reads values
-  asks : (name : Text) (tells : Plain → Told) → Rises env (ask env name tells)
-  asks name tells = on-entry name _ (λ e few. tell env (tells e.value))
-
-  asks-both : (name other : Text) (tells : Plain → Plain → Told) → Rises env (ask_both env name other tells)
-  asks-both name other tells = on-entry name _ (λ e few. on-entry other _ (λ f also. tell-both env name other (tells e.value f.value)))
-
-  -- a statement that changes one value, by its row
-  turns : (s : Layer) (name : Text) → Rises env (turned env name (turn_of s))
-  turns s name = on-entry name _ (λ e few. become env name _ _ _ (costs s e.alone e.value few))
-
-  -- a statement that changes a value by another
-  turns-by : (name other : Text) (adds : Bool) (run : Plain → Plain → Answer) → Rises env (change_by env name other adds run)
-  turns-by name other adds run = on-entry name _ (λ e few. on-entry other _ (λ f also. become env name _ _ _ (costs-by name other adds e f few also)))
-
-  asking-rises : (s : Layer) → Rises env (asking env s)
-  asking-rises (Statement-F.Count l n) = asks n query.count_of
-  asking-rises (Statement-F.Get l n x) = asks n (query.get x)
-  asking-rises (Statement-F.At l n i) = asks n (query.at i)
-  asking-rises (Statement-F.Has l n a) = asks n (query.has a)
-  asking-rises (Statement-F.Place l n a) = asks n (query.place a)
-  asking-rises (Statement-F.Peek l n side) = asks n (query.peek side)
-  asking-rises (Statement-F.Subset l n m) = asks-both n m query.subset
-  asking-rises (Statement-F.Disjoint l n m) = asks-both n m query.disjoint
-  asking-rises (Statement-F.Equal l n m) = asks-both n m query.equal
-  asking-rises s = omega arith
-
-  changing_by-rises : (s : Layer) → Rises env (changing_by env s)
-  changing_by-rises (Statement-F.Extend l n m) = turns-by n m true operation.extend
-  changing_by-rises (Statement-F.Union l n m) = turns-by n m true operation.union
-  changing_by-rises (Statement-F.Inter l n m) = turns-by n m false operation.inter
-  changing_by-rises (Statement-F.Minus l n m) = turns-by n m false operation.minus
-  changing_by-rises (Statement-F.SymDiff l n m) = turns-by n m true operation.symdiff
-  changing_by-rises (Statement-F.Merge l n m take) = turns-by n m true (operation.merge take)
-  changing_by-rises (Statement-F.Within l n m) = turns-by n m false operation.within
-  changing_by-rises s = asking-rises s
-
-  changing-rises : (s : Layer) → Rises env (changing env s)
-  changing-rises (Statement-F.Append l n a) = turns (Statement-F.Append l n a) n
-  changing-rises (Statement-F.Prepend l n a) = turns (Statement-F.Prepend l n a) n
-  changing-rises (Statement-F.Insert l n a) = turns (Statement-F.Insert l n a) n
-  changing-rises (Statement-F.InsertAt l n i a) = turns (Statement-F.InsertAt l n i a) n
-  changing-rises (Statement-F.Update l n a) = turns (Statement-F.Update l n a) n
-  changing-rises (Statement-F.Remove l n x) = turns (Statement-F.Remove l n x) n
-  changing-rises (Statement-F.RemoveAt l n i) = turns (Statement-F.RemoveAt l n i) n
-  changing-rises (Statement-F.Set l n i a) = turns (Statement-F.Set l n i a) n
-  changing-rises (Statement-F.Replace l n side a) = turns (Statement-F.Replace l n side a) n
-  changing-rises (Statement-F.Swap l n i j) = turns (Statement-F.Swap l n i j) n
-  changing-rises (Statement-F.Reverse l n) = turns (Statement-F.Reverse l n) n
-  changing-rises (Statement-F.Rotate l n c) = turns (Statement-F.Rotate l n c) n
-  changing-rises (Statement-F.Splice l n i j atoms) = turns (Statement-F.Splice l n i j atoms) n
-  changing-rises (Statement-F.Reserve l n c) = turns (Statement-F.Reserve l n c) n
-  changing-rises (Statement-F.Clear l n) = turns (Statement-F.Clear l n) n
-  changing-rises (Statement-F.Rebase l n) = turns (Statement-F.Rebase l n) n
-  changing-rises (Statement-F.Put l n k v) = turns (Statement-F.Put l n k v) n
-  changing-rises s = changing_by-rises s
+  -- a statement that changes values, or reads
+  parts : Parts (Rises env) env
+  parts = record {
+      still = omega arith;
+      asks = λ name tells. on-entry name _ (λ e few. tell env (tells e.value));
+      asks_both = λ name other tells. on-entry name _ (λ e few. on-entry other _ (λ f also. tell-both env name other (tells e.value f.value)));
+      turns = λ s name. on-entry name _ (λ e few. become env name _ _ _ (costs s e.alone e.value few));
+      turns_by = λ s name other adds. on-entry name _ (λ e few. on-entry other _ (λ f also. become env name _ _ _ (costs-by name other adds e f few also)))
+    }
 
   act-rises : (shapes : List Shape) (s : Layer) → Rises env (act env shapes s)
   act-rises shapes (Statement-F.Let l n kind atoms) = either env (has_place n env.names) _ _ (omega arith) (omega arith)
@@ -174,9 +127,9 @@ module _ (env : Environment) (small : Values (λ v. count v ≤ max_count) env.n
   act-rises shapes (Statement-F.Slice l n m i j) = on-entry m _ (λ e few. cut env n m (operation.slice i j e.value))
   act-rises shapes (Statement-F.Discard l n) = on-entry n _ (λ e few. omega arith)
   act-rises shapes (Statement-F.Show l n) = on-entry n _ (λ e few. print env (line (plain_text e.value)))
-  act-rises shapes (Statement-F.Pop l n side) = turns (Statement-F.Pop l n side) n
+  act-rises shapes (Statement-F.Pop l n side) = parts.turns (Statement-F.Pop l n side) n
   act-rises shapes (Statement-F.Lazy l n i verb) = on-entry n _ (λ e few. see-at env shapes n i verb e.value few)
-  act-rises shapes s = changing-rises s
+  act-rises shapes s = changing-holds (Rises env) env parts s
 
 -- a statement that is no fork allows at most 4,194,304 copies more
 pub step-rises : (env : Environment) (shapes : List Shape) (s : Layer)

@@ -22,13 +22,13 @@ use Rattle.cow_model.specs.Operation as operation
 use Rattle.cow_model.specs.Operation.{Answer, silent, at_place, index, stretch, fitting}
 use Rattle.cow_model.specs.Plain.{max_count}
 use Rattle.cow_model.specs.Printed.{line, plain_text, list_text}
-use Rattle.cow_model.specs.Query as query
 use Rattle.cow_model.specs.Query.{Told}
 use Rattle.cow_model.specs.Run.{run_layer}
 use Rattle.cow_model.specs.Sharing.{Layer, literals}
-use Rattle.cow_model.specs.Step.{settles, with_found, with_entry, second_in, sliced, print_in, told, ask, told_both, ask_both, becomes, turned, change_by, view_in, shape_of, through, lazy_at, asking, changing_by, changing, act, step}
+use Rattle.cow_model.specs.Step.{settles, with_found, with_entry, second_in, sliced, print_in, told, told_both, becomes, view_in, shape_of, through, lazy_at, act, step}
 use Rattle.cow_model.specs.Turns.{turn_of, turn_by_of}
 use Rattle.cow_model.proofs.ListSteps.{All-push, All-at, All-remove}
+use Rattle.cow_model.proofs.StepParts.{Parts, changing-holds}
 
 -- something holds of the values of all names
 abbrev pub Values : (Plain → Type 0) → List Entry → Type 0
@@ -159,64 +159,15 @@ module _ (Q P : Plain → Type 0) (law : Leads Q P) (env : Environment) (before 
   on-entry : (name : Text) (run : Entry → Outcome) → ((e : Entry) → Q e.value → Keeps P (run e)) → Keeps P (with_entry env name run)
   on-entry name run h = on-found name (entry_at (place_of name env.names) env.names) run refl h
 
-  -- a statement that reads values
-  asks : (name : Text) (tells : Plain → Told) → Keeps P (ask env name tells)
-  asks name tells = on-entry name _ (λ e q. tell P env still (tells e.value))
-
-  asks-both : (name other : Text) (tells : Plain → Plain → Told) → Keeps P (ask_both env name other tells)
-  asks-both name other tells = on-entry name _ (λ e q. on-entry other _ (λ f r. tell-both P env still name other (tells e.value f.value)))
-
-  -- a statement that changes one value, by its row
-  turns : (s : Layer) (name : Text) → Keeps P (turned env name (turn_of s))
-  turns s name = on-entry name _ (λ e q. become P env still name _ _ e.value _ (law.turn s e.value q))
-
-  -- a statement that changes a value by another
-  turns-by : (name other : Text) (adds : Bool) (run : Plain → Plain → Answer)
-      → ((v w : Plain) → Q v → Q w → P (value_after v (fitting (run v w))))
-      → Keeps P (change_by env name other adds run)
-  turns-by name other adds run h = on-entry name _ (λ e q. on-entry other _ (λ f r. become P env still name _ _ e.value _ (h e.value f.value q r)))
-
-  asking-keeps : (s : Layer) → Keeps P (asking env s)
-  asking-keeps (Statement-F.Count l n) = asks n query.count_of
-  asking-keeps (Statement-F.Get l n x) = asks n (query.get x)
-  asking-keeps (Statement-F.At l n i) = asks n (query.at i)
-  asking-keeps (Statement-F.Has l n a) = asks n (query.has a)
-  asking-keeps (Statement-F.Place l n a) = asks n (query.place a)
-  asking-keeps (Statement-F.Peek l n side) = asks n (query.peek side)
-  asking-keeps (Statement-F.Subset l n m) = asks-both n m query.subset
-  asking-keeps (Statement-F.Disjoint l n m) = asks-both n m query.disjoint
-  asking-keeps (Statement-F.Equal l n m) = asks-both n m query.equal
-  asking-keeps s = still
-
-  changing_by-keeps : (s : Layer) → Keeps P (changing_by env s)
-  changing_by-keeps (Statement-F.Extend l n m) = turns-by n m true operation.extend (law.turn_by (Statement-F.Extend l n m))
-  changing_by-keeps (Statement-F.Union l n m) = turns-by n m true operation.union (law.turn_by (Statement-F.Union l n m))
-  changing_by-keeps (Statement-F.Inter l n m) = turns-by n m false operation.inter (law.turn_by (Statement-F.Inter l n m))
-  changing_by-keeps (Statement-F.Minus l n m) = turns-by n m false operation.minus (law.turn_by (Statement-F.Minus l n m))
-  changing_by-keeps (Statement-F.SymDiff l n m) = turns-by n m true operation.symdiff (law.turn_by (Statement-F.SymDiff l n m))
-  changing_by-keeps (Statement-F.Merge l n m take) = turns-by n m true (operation.merge take) (law.turn_by (Statement-F.Merge l n m take))
-  changing_by-keeps (Statement-F.Within l n m) = turns-by n m false operation.within (law.turn_by (Statement-F.Within l n m))
-  changing_by-keeps s = asking-keeps s
-
-  changing-keeps : (s : Layer) → Keeps P (changing env s)
-  changing-keeps (Statement-F.Append l n a) = turns (Statement-F.Append l n a) n
-  changing-keeps (Statement-F.Prepend l n a) = turns (Statement-F.Prepend l n a) n
-  changing-keeps (Statement-F.Insert l n a) = turns (Statement-F.Insert l n a) n
-  changing-keeps (Statement-F.InsertAt l n i a) = turns (Statement-F.InsertAt l n i a) n
-  changing-keeps (Statement-F.Update l n a) = turns (Statement-F.Update l n a) n
-  changing-keeps (Statement-F.Remove l n x) = turns (Statement-F.Remove l n x) n
-  changing-keeps (Statement-F.RemoveAt l n i) = turns (Statement-F.RemoveAt l n i) n
-  changing-keeps (Statement-F.Set l n i a) = turns (Statement-F.Set l n i a) n
-  changing-keeps (Statement-F.Replace l n side a) = turns (Statement-F.Replace l n side a) n
-  changing-keeps (Statement-F.Swap l n i j) = turns (Statement-F.Swap l n i j) n
-  changing-keeps (Statement-F.Reverse l n) = turns (Statement-F.Reverse l n) n
-  changing-keeps (Statement-F.Rotate l n c) = turns (Statement-F.Rotate l n c) n
-  changing-keeps (Statement-F.Splice l n i j atoms) = turns (Statement-F.Splice l n i j atoms) n
-  changing-keeps (Statement-F.Reserve l n c) = turns (Statement-F.Reserve l n c) n
-  changing-keeps (Statement-F.Clear l n) = turns (Statement-F.Clear l n) n
-  changing-keeps (Statement-F.Rebase l n) = turns (Statement-F.Rebase l n) n
-  changing-keeps (Statement-F.Put l n k v) = turns (Statement-F.Put l n k v) n
-  changing-keeps s = changing_by-keeps s
+  -- a statement that changes values, or reads
+  parts : Parts (Keeps P) env
+  parts = record {
+      still = still;
+      asks = λ name tells. on-entry name _ (λ e q. tell P env still (tells e.value));
+      asks_both = λ name other tells. on-entry name _ (λ e q. on-entry other _ (λ f r. tell-both P env still name other (tells e.value f.value)));
+      turns = λ s name. on-entry name _ (λ e q. become P env still name _ _ e.value _ (law.turn s e.value q));
+      turns_by = λ s name other adds. on-entry name _ (λ e q. on-entry other _ (λ f r. become P env still name _ _ e.value _ (law.turn_by s e.value f.value q r)))
+    }
 
   act-keeps : (shapes : List Shape) (s : Layer) → literals s ≤ max_count → Keeps P (act env shapes s)
   act-keeps shapes (Statement-F.Let l n kind atoms) few =
@@ -225,9 +176,9 @@ module _ (Q P : Plain → Type 0) (law : Leads Q P) (env : Environment) (before 
   act-keeps shapes (Statement-F.Slice l n m i j) few = on-entry m _ (λ e q. slice-keeps P env still n m i j e.value (λ w is. law.slice i j e.value w is q))
   act-keeps shapes (Statement-F.Discard l n) few = on-entry n _ (λ e q. without-keeps P (place_of n env.names) env.names still)
   act-keeps shapes (Statement-F.Show l n) few = on-entry n _ (λ e q. print P env still (line (plain_text e.value)))
-  act-keeps shapes (Statement-F.Pop l n side) few = turns (Statement-F.Pop l n side) n
+  act-keeps shapes (Statement-F.Pop l n side) few = parts.turns (Statement-F.Pop l n side) n
   act-keeps shapes (Statement-F.Lazy l n i verb) few = on-entry n _ (λ e q. see-at P env still shapes n i verb e.value)
-  act-keeps shapes s few = changing-keeps s
+  act-keeps shapes s few = changing-holds (Keeps P) env parts s
 
 -- after a statement that is no fork P holds of all values, where Q does before it
 pub step-keeps : (Q P : Plain → Type 0) → Leads Q P → (env : Environment) (shapes : List Shape) (s : Layer)
