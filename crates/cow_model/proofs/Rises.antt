@@ -1,4 +1,4 @@
--- How many copies more a statement that is no fork may allow: its literals, and four for each element of a value.
+-- How many copies more a statement that is no fork may allow: its literals, and four for each of the 65,536 elements that a value may have.
 use Rattle.std.proofs.Common.{◌≡◌, ℕ, ◌+◌, ◌*◌, ◌^◌, ◌≤◌, ℤ, Bool, true, false, List, length, Option, Some, None, Ok, Err, refl, arith}
 use Rattle.std.specs.Prelude.{nat_lt, if◌then◌else◌}
 use Rattle.std.specs.Str.{bytes_eq}
@@ -28,7 +28,7 @@ use Rattle.cow_model.proofs.Counts.{size-count}
 use Rattle.cow_model.proofs.StepParts.{Parts, changing-holds}
 use Rattle.cow_model.proofs.Steps.{Values, value-has}
 
--- at most four copies more for each element of a value are allowed
+-- at most four copies more are allowed for each element that a value may have
 abbrev Rises : Environment → Outcome → Type 0
 Rises env out = out.env.allowed ≤ env.allowed + 4 * max_count
 
@@ -98,13 +98,15 @@ adds-most : (adds : Bool) (v : Plain) → (if adds then size v else 0) ≤ 2 * c
 adds-most true v = size-count v
 adds-most false v = omega arith
 
+-- the cost of a change by another value, and what is added of that
 costs-by : (name other : Text) (adds : Bool) (e f : Entry) → count e.value ≤ max_count → count f.value ≤ max_count
     → both_cost (as_changed name other e) + (if adds then size f.value else 0) ≤ 4 * max_count
 costs-by name other adds e f small also = omega (arith, by-cost (bytes_eq name other) e, adds-most adds f.value, small, also)
 
 module _ (env : Environment) (small : Values (λ v. count v ≤ max_count) env.names) where
   -- a statement on the entry of a name
-  on-found : (name : Text) (found : Option Entry) (run : Entry → Outcome) → entry_at (place_of name env.names) env.names ≡ found → ((e : Entry) → count e.value ≤ max_count → Rises env (run e)) → Rises env (with_found env found run)
+  on-found : (name : Text) (found : Option Entry) (run : Entry → Outcome) → entry_at (place_of name env.names) env.names ≡ found
+      → ((e : Entry) → count e.value ≤ max_count → Rises env (run e)) → Rises env (with_found env found run)
   on-found name None run is h = omega arith
   on-found name (Some e) run is h = h e (value-has (λ v. count v ≤ max_count) (place_of name env.names) env.names e is small)
 
@@ -114,13 +116,14 @@ module _ (env : Environment) (small : Values (λ v. count v ≤ max_count) env.n
   -- a statement that changes values, or reads
   parts : Parts (Rises env) env
   parts = record {
-      still = omega arith;
-      asks = λ name tells. on-entry name _ (λ e few. tell env (tells e.value));
-      asks_both = λ name other tells. on-entry name _ (λ e few. on-entry other _ (λ f also. tell-both env name other (tells e.value f.value)));
-      turns = λ s name. on-entry name _ (λ e few. become env name _ _ _ (costs s e.alone e.value few));
-      turns_by = λ s name other adds. on-entry name _ (λ e few. on-entry other _ (λ f also. become env name _ _ _ (costs-by name other adds e f few also)))
-    }
+    still = omega arith;
+    asks = λ name tells. on-entry name _ (λ e few. tell env (tells e.value));
+    asks_both = λ name other tells. on-entry name _ (λ e few. on-entry other _ (λ f also. tell-both env name other (tells e.value f.value)));
+    turns = λ s name. on-entry name _ (λ e few. become env name _ _ _ (costs s e.alone e.value few));
+    turns_by = λ s name other adds. on-entry name _ (λ e few. on-entry other _ (λ f also. become env name _ _ _ (costs-by name other adds e f few also)));
+  }
 
+  -- what a statement does once its literals are allowed
   act-rises : (shapes : List Shape) (s : Layer) → Rises env (act env shapes s)
   act-rises shapes (Statement-F.Let l n kind atoms) = either env (has_place n env.names) _ _ (omega arith) (omega arith)
   act-rises shapes (Statement-F.Assign l n m) = on-entry m _ (λ e few. second env n m e.value)

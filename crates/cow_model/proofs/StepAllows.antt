@@ -97,12 +97,12 @@ lazy_at_keeps env shapes name i asked value = omega arith
 -- a statement that changes values, or reads
 parts_keep : (env : Environment) → Parts (Keeps env) env
 parts_keep env = record {
-    still = omega arith;
-    asks = λ name tells. entry_keeps env name _ (λ e. told_keeps env (tells e.value));
-    asks_both = λ name other tells. entry_keeps env name _ (λ e. entry_keeps env other _ (λ f. told_both_keeps env name other (tells e.value f.value)));
-    turns = λ s name. entry_keeps env name _ (λ e. becomes_keeps env name _ _ _);
-    turns_by = λ s name other adds. entry_keeps env name _ (λ e. entry_keeps env other _ (λ f. becomes_keeps env name _ _ _))
-  }
+  still = omega arith;
+  asks = λ name tells. entry_keeps env name _ (λ e. told_keeps env (tells e.value));
+  asks_both = λ name other tells. entry_keeps env name _ (λ e. entry_keeps env other _ (λ f. told_both_keeps env name other (tells e.value f.value)));
+  turns = λ s name. entry_keeps env name _ (λ e. becomes_keeps env name _ _ _);
+  turns_by = λ s name other adds. entry_keeps env name _ (λ e. entry_keeps env other _ (λ f. becomes_keeps env name _ _ _));
+}
 
 -- what a statement does once its literals are allowed
 act_keeps : (env : Environment) (shapes : List Shape) (s : Layer) → Keeps env (act env shapes s)

@@ -83,22 +83,22 @@ slice-near n i j v w e near = omega (arith, slice-stop i j v w e, near)
 -- what is small stays small
 small-leads : Leads Small Small
 small-leads = record {
-    weaken = λ v small. small;
-    turn = turn-small;
-    turn_by = λ s v w small also. turn_by-small s v w small;
-    made = λ k atoms few. omega (arith, made-small k atoms, few);
-    slice = slice-small
-  }
+  weaken = λ v small. small;
+  turn = turn-small;
+  turn_by = λ s v w small also. turn_by-small s v w small;
+  made = λ k atoms few. omega (arith, made-small k atoms, few);
+  slice = slice-small;
+}
 
 -- what is near is one index further at most
 near-leads : (n : ℕ) → max_count + n ≤ 2 ^ 31 → Leads (λ v. Small v × Near (suc n) v) (Near n)
 near-leads n room = record {
-    weaken = λ v q. omega (arith, q.1);
-    turn = λ s v q. nearer n _ (stop v) room q.1 (turn-near s v q.0);
-    turn_by = λ s v w q r. nearer n _ (stop v) room q.1 (turn_by-near s v w q.0);
-    made = λ k atoms few. made-near n k atoms room few;
-    slice = λ i j v w e q. slice-near n i j v w e q.1
-  }
+  weaken = λ v q. omega (arith, q.1);
+  turn = λ s v q. nearer n _ (stop v) room q.1 (turn-near s v q.0);
+  turn_by = λ s v w q r. nearer n _ (stop v) room q.1 (turn_by-near s v w q.0);
+  made = λ k atoms few. made-near n k atoms room few;
+  slice = λ i j v w e q. slice-near n i j v w e q.1;
+}
 
 -- after a statement that is no fork each value has at most 65,536 elements, where each has before it
 pub step-small : (env : Environment) (shapes : List Shape) (s : Layer)

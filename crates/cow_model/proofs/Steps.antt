@@ -88,7 +88,8 @@ module _ (P : Plain → Type 0) (env : Environment) (after : Values P env.names)
   cut name other (Some x) make p = second name other (make x) (p (make x) refl)
 
   -- a slice of a value
-  slice-keeps : (name other : Text) (i j : ℤ) (v : Plain) → ((w : Plain) → operation.slice i j v ≡ silent w → P w) → Keeps P (sliced env name other (operation.slice i j v))
+  slice-keeps : (name other : Text) (i j : ℤ) (v : Plain)
+      → ((w : Plain) → operation.slice i j v ≡ silent w → P w) → Keeps P (sliced env name other (operation.slice i j v))
   slice-keeps name other i j (Array items) p = cut name other (stretch (length items) i j) _ p
   slice-keeps name other i j (Slice start items) p = after
   slice-keeps name other i j (Deque items) p = after
@@ -146,13 +147,14 @@ pub record Leads (Q P : Plain → Type 0) : Type 0 where
   pub made : (k : Kind) (atoms : List Literal) → length atoms ≤ max_count → P (operation.made k atoms)
   pub slice : (i j : ℤ) (v w : Plain) → operation.slice i j v ≡ silent w → Q v → P w
 
-module _ (Q P : Plain → Type 0) (law : Leads Q P) (env : Environment) (before : Values Q env.names) where
+module _ (Q P : Plain → Type 0) (leads : Leads Q P) (env : Environment) (before : Values Q env.names) where
   -- what holds of the values where nothing changes
   still : Values P env.names
-  still = All-weaker (λ e. Q e.value) (λ e. P e.value) (λ e. law.weaken e.value) env.names before
+  still = All-weaker (λ e. Q e.value) (λ e. P e.value) (λ e. leads.weaken e.value) env.names before
 
   -- a statement on the entry of a name
-  on-found : (name : Text) (found : Option Entry) (run : Entry → Outcome) → entry_at (place_of name env.names) env.names ≡ found → ((e : Entry) → Q e.value → Keeps P (run e)) → Keeps P (with_found env found run)
+  on-found : (name : Text) (found : Option Entry) (run : Entry → Outcome) → entry_at (place_of name env.names) env.names ≡ found
+      → ((e : Entry) → Q e.value → Keeps P (run e)) → Keeps P (with_found env found run)
   on-found name None run is h = still
   on-found name (Some e) run is h = h e (value-has Q (place_of name env.names) env.names e is before)
 
@@ -162,18 +164,19 @@ module _ (Q P : Plain → Type 0) (law : Leads Q P) (env : Environment) (before 
   -- a statement that changes values, or reads
   parts : Parts (Keeps P) env
   parts = record {
-      still = still;
-      asks = λ name tells. on-entry name _ (λ e q. tell P env still (tells e.value));
-      asks_both = λ name other tells. on-entry name _ (λ e q. on-entry other _ (λ f r. tell-both P env still name other (tells e.value f.value)));
-      turns = λ s name. on-entry name _ (λ e q. become P env still name _ _ e.value _ (law.turn s e.value q));
-      turns_by = λ s name other adds. on-entry name _ (λ e q. on-entry other _ (λ f r. become P env still name _ _ e.value _ (law.turn_by s e.value f.value q r)))
-    }
+    still = still;
+    asks = λ name tells. on-entry name _ (λ e q. tell P env still (tells e.value));
+    asks_both = λ name other tells. on-entry name _ (λ e q. on-entry other _ (λ f r. tell-both P env still name other (tells e.value f.value)));
+    turns = λ s name. on-entry name _ (λ e q. become P env still name _ _ e.value _ (leads.turn s e.value q));
+    turns_by = λ s name other adds. on-entry name _ (λ e q. on-entry other _ (λ f r. become P env still name _ _ e.value _ (leads.turn_by s e.value f.value q r)));
+  }
 
+  -- what a statement does once its literals are allowed
   act-keeps : (shapes : List Shape) (s : Layer) → literals s ≤ max_count → Keeps P (act env shapes s)
   act-keeps shapes (Statement-F.Let l n kind atoms) few =
-      either P env still (has_place n env.names) _ _ (given-keeps P (place_of n env.names) _ env.names (law.made kind atoms few) still) still
-  act-keeps shapes (Statement-F.Assign l n m) few = on-entry m _ (λ e q. second P env still n m e.value (law.weaken e.value q))
-  act-keeps shapes (Statement-F.Slice l n m i j) few = on-entry m _ (λ e q. slice-keeps P env still n m i j e.value (λ w is. law.slice i j e.value w is q))
+      either P env still (has_place n env.names) _ _ (given-keeps P (place_of n env.names) _ env.names (leads.made kind atoms few) still) still
+  act-keeps shapes (Statement-F.Assign l n m) few = on-entry m _ (λ e q. second P env still n m e.value (leads.weaken e.value q))
+  act-keeps shapes (Statement-F.Slice l n m i j) few = on-entry m _ (λ e q. slice-keeps P env still n m i j e.value (λ w is. leads.slice i j e.value w is q))
   act-keeps shapes (Statement-F.Discard l n) few = on-entry n _ (λ e q. without-keeps P (place_of n env.names) env.names still)
   act-keeps shapes (Statement-F.Show l n) few = on-entry n _ (λ e q. print P env still (line (plain_text e.value)))
   act-keeps shapes (Statement-F.Pop l n side) few = parts.turns (Statement-F.Pop l n side) n
@@ -183,7 +186,7 @@ module _ (Q P : Plain → Type 0) (law : Leads Q P) (env : Environment) (before 
 -- after a statement that is no fork P holds of all values, where Q does before it
 pub step-keeps : (Q P : Plain → Type 0) → Leads Q P → (env : Environment) (shapes : List Shape) (s : Layer)
     → literals s ≤ max_count → Values Q env.names → Values P (step env shapes s).env.names
-step-keeps Q P law env shapes s few before = act-keeps Q P law (allow (literals s) env) before shapes s few
+step-keeps Q P leads env shapes s few before = act-keeps Q P leads (allow (literals s) env) before shapes s few
 
 -- whether a statement is a fork
 abbrev pub is_fork : Layer → Bool
