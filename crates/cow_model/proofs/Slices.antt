@@ -1,5 +1,5 @@
 -- A slice of a value without units has none.
-use Rattle.std.proofs.Common.{◌≡◌, ℕ, ◌-◌, ◌+◌, ℤ, Bool, List, take, drop, length, count_by, cond, Option, Some, None, ap, subst, arith}
+use Rattle.std.proofs.Common.{◌≡◌, ℕ, ◌-◌, ℤ, Bool, List, take, drop, length, count_by, cond, Option, Some, None, ap, subst, arith}
 use Rattle.std.proofs.lemmas.List.Sums.{sum_by-take-drop}
 use Rattle.cow_model.specs.Answers.{value_after}
 use Rattle.cow_model.specs.Operation.{slice, silent, at_place, stretch}
