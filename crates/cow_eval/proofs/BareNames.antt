@@ -1,9 +1,11 @@
 -- Names of which no storage holds a counted item, as statements change them.
-use Rattle.std.proofs.Common.{◌≡◌, ℕ, ◌+◌, ◌≤◌, ◌<◌, ◌++◌, Bool, List, [], ◌∷◌, length, map, get_or, set, Some, sym, arith, subst}
+use Rattle.std.proofs.Common.{◌≡◌, ℕ, ◌+◌, ◌≤◌, ◌<◌, ◌++◌, Bool, List, [], ◌∷◌, length, map, get_or, set, Some, ap, sym, ◌∙◌, arith, subst}
+use Rattle.std.specs.Prelude.{All}
 use Rattle.std.specs.List.{remove}
 use Rattle.std.proofs.lemmas.List.{length-set, length-append, length-map}
 use Rattle.std.proofs.lemmas.List.Edits.{length-remove}
-use Rattle.std.proofs.lemmas.List.Elements.{All-push, All-set, All-get_or}
+use Rattle.std.proofs.lemmas.List.Elements.{All-push, All-set, All-get_or, All-map}
+use Rattle.std.proofs.Math.ListN.{get_or-map}
 use Rattle.cow_model.proofs.ListSteps.{All-remove}
 use Rattle.cow_model.specs.Env as env
 use Rattle.cow_model.specs.Lexis.{Text}
@@ -28,6 +30,17 @@ pushed p names e h bare new = record {
   bare = All-push (λ x. units p x.seen ≡ 0) names e bare new;
   sum = let longer = length-append names (e ∷ []) in omega (arith, longer);
 }
+
+-- what holds of the images holds of each by its image
+All-unmap : {X Y : Type 0} (P : X → Type 0) (f : Y → X) (ys : List Y) → All P (map f ys) → All (λ y. P (f y)) ys
+All-unmap P f ys h = λ k d lt. subst P (get_or-map f ys k d) (h k (f d) (subst (λ n. k < n) (sym (length-map ys f)) lt))
+
+-- names whose values stay
+pub values-length : (names after : List SeenEntry) → map (λ e. e.seen) after ≡ map (λ e. e.seen) names → length after ≡ length names
+values-length names after same = sym (length-map after (λ e. e.seen)) ∙ (ap length same ∙ length-map names (λ e. e.seen))
+
+pub values-bare : (p : Literal → Bool) (names after : List SeenEntry) → map (λ e. e.seen) after ≡ map (λ e. e.seen) names → IsBare p names → IsBare p after
+values-bare p names after same bare = All-unmap (λ v. units p v ≡ 0) (λ e. e.seen) after (subst (λ xs. All (λ v. units p v ≡ 0) xs) (sym same) (All-map (λ v. units p v ≡ 0) (λ e. e.seen) names bare))
 
 module _ (p : Literal → Bool) (name : Text) (names : List SeenEntry) (at : ℕ) (e : SeenEntry) (place : env.place_of name (map entry_of names) ≡ Some at) (is : e ≡ get_or names at e) (bare : IsBare p names) where
   within : at < length names

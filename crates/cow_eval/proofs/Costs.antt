@@ -1,19 +1,23 @@
 -- What a change of the value of a name allows and costs.
 use Rattle.std.proofs.Common.{◌≡◌, ℕ, ◌+◌, ◌≤◌, Bool, true, false, map, get_or, Some, Ok, Err, Result, refl, arith, subst}
-use Rattle.std.specs.Prelude.{OnErr}
+use Rattle.std.specs.Prelude.{OnErr, ⊤}
 use Rattle.cow_model.specs.Env as env
 use Rattle.cow_model.specs.Lexis.{Text}
 use Rattle.cow_model.specs.Operation.{Answer}
 use Rattle.cow_model.specs.Purse.{Purse, RisesWithin}
 use Rattle.cow_model.specs.Step.{becomes}
 use Rattle.cow_model.specs.declared.outcome.Entry.{Entry}
+use Rattle.cow_model.specs.declared.memory.NoMemory.{NoMemory}
 use Rattle.cow_model.specs.declared.outcome.Environment.{Environment}
+use Rattle.cow_model.specs.declared.outcome.Outcome.{Outcome}
 use Rattle.cow_model.specs.declared.plain.Literal.{Literal}
 use Rattle.cow_model.specs.declared.refusal.Refusal.{Refusal}
 use Rattle.cow_model.specs.declared.value.Plain.{Plain}
 use Rattle.cow_model.specs.Answers.{verdict, is_refused}
 use Rattle.cow_eval.specs.Entries.{SeenEntry, EntryCosts, allowed_for, entry_of}
-use Rattle.cow_eval.specs.Envs.{SeenEnv, Costs, env_of}
+use Rattle.cow_eval.specs.Envs.{SeenEnv, Costs, Does, Reads, env_of}
+use Rattle.cow_eval.proofs.BareNames.{values-bare, values-length}
+use Rattle.cow_eval.proofs.Results.{always}
 use Rattle.cow_eval.proofs.Places.{there}
 use Rattle.cow_eval.proofs.Steps.{with_change}
 
@@ -87,3 +91,23 @@ module _ {p : Literal → Bool} {literals : ℕ} (n : ℕ) (a : Answer) {brings 
   -- the same by its verdict
   pub costs-kept : {why : Refusal} → Err why ≡ verdict a → after.allowed ≡ before.allowed → Costs literals 1 before after h h'
   costs-kept {why} is same = costs-refused (refused-by a why is) same
+
+module _ {p : Literal → Bool} {literals : ℕ} {out : Outcome} {before after : SeenEnv} {said said' : Text} {r : Result ⊤ NoMemory} where
+  -- what brings nothing in under one condition doesn't under a stronger one
+  pub brings-less : (B C : Type 0) {n : ℕ} {stays : Type 0} {h h' : Purse} → (C → B) → Does p B literals n out stays before after said said' h h' r → Does p C literals n out stays before after said said' h h' r
+  brings-less B C less did = record {
+    env = did.env; text = did.text; kept = did.kept; most = did.most; costs = did.costs;
+    bare = λ names none. did.bare names (less none);
+  }
+
+  -- a statement that only reads
+  pub reads-only : (B : Type 0) (h : Purse) → before.allowed ≤ out.env.allowed → Reads out before after said said' r → Does p B literals 1 out (said' ≡ said) before after said said' h h r
+  reads-only B h less did = record {
+    env = did.env; text = did.text; kept = did.kept;
+    most = always-err _ r (omega (arith, less, did.allowed));
+    costs = record { copied = record { copied = omega (arith, did.allowed); kept = omega arith }; falls = omega arith };
+    bare = λ names none. always _ r (record {
+      bare = values-bare p before.names after.names did.values names;
+      sum = let same = values-length before.names after.names did.values in omega (arith, same);
+    });
+  }

@@ -1,9 +1,11 @@
 pub mod Apart
 pub mod BareNames
+pub mod ByOther
 pub mod Costs
 pub mod FirstLine
 pub mod Flags
 pub mod Itself
 pub mod Places
+pub mod Reading
 pub mod Results
 pub mod Steps

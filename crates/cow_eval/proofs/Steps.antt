@@ -1,6 +1,6 @@
 -- What a statement does to the entry of a name, as the definitions say it of the environment.
 use Rattle.std.specs.Prelude.{nat_lt}
-use Rattle.std.proofs.Common.{◌≡◌, if◌then◌else◌, ℕ, ℤ, ◌+◌, ◌-◌, ◌<◌, ◌++◌, Bool, true, false, List, [], length, arith, map, get_or, set, Some, Ok, Err, refl, ap, sym, ◌∙◌}
+use Rattle.std.proofs.Common.{◌≡◌, if◌then◌else◌, ℕ, ℤ, ◌+◌, ◌-◌, ◌<◌, ◌++◌, Bool, true, false, List, [], length, arith, ◌≤◌, Option, None, map, get_or, set, Some, Ok, Err, refl, ap, sym, ◌∙◌}
 use Rattle.std.proofs.lemmas.List.{append-nil}
 use Rattle.std.specs.List.{remove}
 use Rattle.std.specs.Str.{bytes_eq}
@@ -18,7 +18,8 @@ use Rattle.cow_model.specs.declared.outcome.Outcome.{Outcome}
 use Rattle.cow_model.specs.declared.refusal.Refusal.{Refusal}
 use Rattle.cow_model.specs.declared.refusal.Refusal.TheVariants.{Full, TextFull}
 use Rattle.cow_model.specs.declared.value.Plain.{Plain}
-use Rattle.cow_model.specs.Answers.{verdict, reply_of, told_verdict, told_reply}
+use Rattle.std.specs.Option.{unwrap_or}
+use Rattle.cow_model.specs.Answers.{refusal_in, verdict, reply_of, told_verdict, told_reply}
 use Rattle.cow_eval.specs.Entries.{SeenEntry, entry_of, entry_after}
 use Rattle.cow_eval.specs.Envs.{SeenEnv, env_of}
 use Rattle.cow_eval.proofs.Places.{there, put-there, same-there, settled-there, map-remove}
@@ -29,8 +30,19 @@ with_change env name n alone run = with_entry env name (λ e. becomes env name (
 
 -- why a slice isn't made where no name can be given: its own refusal comes first
 abbrev pub refusal_or_full : Answer → Refusal
-refusal_or_full (Ok done) = Full
-refusal_or_full (Err why) = why
+refusal_or_full a = unwrap_or (refusal_in a) Full
+
+print-free : (b : Bool) (before : Environment) (text : Text) → before.allowed ≤ (if b then step.refused before TextFull else record { env = record before { room = before.room - length text }; text = text }).env.allowed
+print-free true before text = omega arith
+print-free false before text = omega arith
+
+found-free : (before : Environment) (e : Option Entry) → before.allowed ≤ (with_found before e (λ x. print_in before (line (plain_text x.value)))).env.allowed
+found-free before None = omega arith
+found-free before (Some e) = print-free (nat_lt before.room (length (line (plain_text e.value)))) before (line (plain_text e.value))
+
+-- `show` allows nothing
+pub shows-free : (before : Environment) (name : Text) → before.allowed ≤ (show_in before name).env.allowed
+shows-free before name = found-free before (env.entry_of name before.names)
 
 -- an outcome: the environment that was left, and the text
 pub record Did (after : Environment) (printed : Text) (out : Outcome) : Type 0 where

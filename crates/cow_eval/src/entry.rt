@@ -122,6 +122,7 @@ impl<V: Values<Q>, Q: Stock> Entry<V, Q> {
         ensures small { IfOk result (λ v. plain.count (V.seen v).value ≤ max_count) }
         ensures bare { units V.counted self.old.seen ≡ 0 → IfOk result (λ v. units V.counted (V.seen v) ≡ 0) }
         ensures spent { OnOk result (h.new ≡ less 1 h.old) }
+        ensures kept { entries.IsKept self.new }
         ensures refused { OnErr result ((self.new ≡ self.old) × (h.new ≡ h.old)) }
     {
         let slice = self.value.slice(i, j, h)?;

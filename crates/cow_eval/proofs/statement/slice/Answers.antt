@@ -4,7 +4,8 @@ use Rattle.std.proofs.lemmas.List.{append-nil}
 use Rattle.cow_model.specs.declared.outcome.Environment.{Environment}
 use Rattle.cow_value.specs.Seen.{units}
 use Rattle.std.proofs.lemmas.Grind.{common_steps}
-use Rattle.cow_eval.specs.Entries.{entry_of}
+use Rattle.std.proofs.lemmas.List.Elements.{All-set}
+use Rattle.cow_eval.specs.Entries.{IsKept, entry_of}
 use Rattle.cow_eval.proofs.Places.{same-there}
 use Rattle.cow_eval.proofs.BareNames.{bare-set, found-bare, shared-bare}
 use Rattle.cow_eval.proofs.Results.{always, on-ok}
@@ -18,8 +19,8 @@ returns-then-not-has_place g c = record {
       let full = sym c.has_place.ensures ∙ c.if-not-has_place.true in
       let room = rw (← c.env.view_is) at full in
       let did = no-room (record { names = c.env.inside.names.items; room = c.env.inside.room; allowed = c.env.inside.allowed }) c.args.other.now c.in-Some.from c.index.result.now (sym found ∙ c.in-Some.is) c.index.ensures c.args.name.now c.args.i c.args.j room in
-      let said = rw (to_z-of_z w64 c.args.i c.ranges.i, to_z-of_z w64 c.args.j c.ranges.j) at c.slice_refusal.ensures in
-      rw (← c.env.view_is, ← did.text, ← said) c.refuse-then-not-has_place.ensures.ok;
+      let said = rw (to_z-of_z w64 c.args.i c.ranges.i, to_z-of_z w64 c.args.j c.ranges.j) at c.slice_refusal-why.ensures in
+      rw (← c.env.view_is, ← did.text, ← said, ← c.unwrap_or.ensures) c.refuse-then-not-has_place.ensures.ok;
     kept = grind (arith, common_steps);
     most = grind (arith, common_steps);
     costs = grind (arith, common_steps);
@@ -71,3 +72,6 @@ returns-in-Ok g c = record {
       let given = c.give.ensures.bare (bare-set g.V.Shown.counted c.env.inside.names.items c.in-Some.from c.slice.new.self names new) (c.in-Ok.ensures.bare old) in
       on-ok _ _ c.give.result given (λ done. rw (← c.env.view_is) (shared-bare g.V.Shown.counted c.args.other.now c.env.inside.names.items c.in-Some.from c.index_mut.result.now place c.index_mut.ensures.value names c.slice.new.self c.give.new.self.names c.args.h.now c.give.new.h one (rw (← c.in-Ok.ensures.spent) done))));
   }
+
+pub invariant_of-env-in-Ok : goal.invariant_of-env-in-Ok
+invariant_of-env-in-Ok g c = All-set IsKept c.env.inside.names.items c.in-Some.from c.slice.new.self c.slice.ensures.kept c.env.invariant
