@@ -32,7 +32,7 @@ pushed p names e h bare new = record {
 }
 
 -- what holds of the images holds of each by its image
-All-unmap : {X Y : Type 0} (P : X → Type 0) (f : Y → X) (ys : List Y) → All P (map f ys) → All (λ y. P (f y)) ys
+pub All-unmap : {X Y : Type 0} (P : X → Type 0) (f : Y → X) (ys : List Y) → All P (map f ys) → All (λ y. P (f y)) ys
 All-unmap P f ys h = λ k d lt. subst P (get_or-map f ys k d) (h k (f d) (subst (λ n. k < n) (sym (length-map ys f)) lt))
 
 -- names whose values stay

@@ -111,3 +111,10 @@ module _ {p : Literal → Bool} {literals : ℕ} {out : Outcome} {before after :
       sum = let same = values-length before.names after.names did.values in omega (arith, same);
     });
   }
+
+-- copies of a statement whose literals are counted already
+pub no-literals : {least most : ℕ} {h h' : Purse} → RisesWithin least (0 + most) h h' → RisesWithin least most h h'
+no-literals {least} {most} {h} {h'} rises = let r = rises.copied in record { copied = omega (arith, r); kept = rises.kept }
+
+pub with-none : {least most : ℕ} {h h' : Purse} → RisesWithin least most h h' → RisesWithin least (0 + most) h h'
+with-none {least} {most} {h} {h'} rises = let r = rises.copied in record { copied = omega (arith, r); kept = rises.kept }

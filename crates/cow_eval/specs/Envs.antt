@@ -83,6 +83,7 @@ pub record ChangesBy (counted : Literal → Bool) (s : Layer) (at by : ℕ) (bef
 
 -- n statements may be run: what is allowed stays a number of 64 bits, no slice stops at 2^31, and the units are there
 pub record CanRun (n : ℕ) (env : SeenEnv) (h : Purse) : Type 0 where
+  pub few : n ≤ 2 ^ 30
   pub allowed : env.allowed + n * most_units ≤ 2 ^ 63 + most_units
   pub near : All (λ e. stop e.seen.value + n ≤ 2 ^ 31) env.names
   pub spare : 2 ^ 39 + n * most_units ≤ h.spare

@@ -5,6 +5,7 @@ use Rattle.cow_model.specs.Atoms.{FitsTexts}
 use Rattle.cow_model.specs.Env.{place_of}
 use Rattle.cow_model.specs.Lexis.{Text}
 use Rattle.cow_model.specs.Plain.{max_count}
+use Rattle.cow_model.specs.Run.{env_after, text_from}
 use Rattle.cow_model.specs.Sharing.{Layer, literals, both_cost}
 use Rattle.cow_model.specs.Step.{as_changed, becomes, with_entry}
 use Rattle.cow_model.specs.Turns.{turn_by_of, added_of, alone_after}
@@ -49,3 +50,7 @@ abbrev pub AreThere : List Entry → Layer → Type 0
 AreThere names (Statement-F.Assign l n m) = (is_some (place_of n names) ≡ true) × (is_some (place_of m names) ≡ true)
 AreThere names (Statement-F.Discard l n) = is_some (place_of n names) ≡ true
 AreThere names s = ⊤
+
+-- what statements in turn leave and print
+abbrev pub outcome_of : Environment → List Statement → Outcome
+outcome_of env ss = record { env = env_after env [] ss; text = text_from env [] ss }

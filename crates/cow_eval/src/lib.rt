@@ -22,4 +22,4 @@ mod statement;
 
 pub use built::first_unbuilt;
 pub use env::Env;
-pub use run::run_statement;
+pub use run::{run_block, run_statement};

@@ -1,5 +1,5 @@
 // Statements in turn.
-ghost use Rattle.std.specs.Prelude.{◌≡◌, ◌++◌, ◌^◌, ◌≤◌, ◌+◌, ◌*◌, [], true, length, All, IsOk, OnOk, OnErr};
+ghost use Rattle.std.specs.Prelude.{◌≡◌, ℕ, ◌++◌, ◌^◌, ◌≤◌, ◌+◌, ◌*◌, [], true, length, All, IsOk, OnOk, OnErr};
 ghost use Rattle.cow_model.specs.Atoms.{FitsTexts, counted_in, IsBareStep, IsBareLayer, IsBareBlock};
 ghost use Rattle.cow_model.specs.Fronts.{GrowsWithin};
 ghost use Rattle.cow_model.specs.Purse.{RisesBy};
@@ -8,7 +8,7 @@ ghost use Rattle.cow_model.specs.Sharing as sharing;
 ghost use Rattle.cow_model.specs.Step as spec;
 ghost use Rattle.cow_model.specs.declared.statement.Statement.{out-Statement};
 ghost use Rattle.cow_eval.specs.Envs.{CanAct, CanRun, Does, Reads, Runs, env_of};
-ghost use Rattle.cow_eval.specs.Statements.{IsRunnable, is_free, AreThere};
+ghost use Rattle.cow_eval.specs.Statements.{IsRunnable, is_free, AreThere, outcome_of};
 
 use crate::both::turn_by;
 use crate::env::Env;
@@ -180,6 +180,7 @@ pub fn run_statement<V: Values<Q>, Q: Stock>(
     ensures there { is_free (out-Statement statement.now) ≡ true →
         AreThere (env_of env.old).names (out-Statement statement.now) → IsOk result }
     ensures least { OnOk result (RisesBy (run.least_layer (env_of env.old) (out-Statement statement.now)) h.old h.new) }
+    ensures next { (n : ℕ) → CanRun (n + 1) env.old h.old → OnOk result (CanRun n env.new h.new) }
     ensures step { Runs V.counted (IsBareStep V.counted (out-Statement statement.now)) 0
         (spec.step (env_of env.old) [] (out-Statement statement.now))
         env.old env.new text.old.items text.new.items h.old h.new result }
@@ -199,6 +200,7 @@ fn run_one<V: Values<Q>, Q: Stock>(
     requires statement { IsRunnable (out-Statement statement.now) }
     requires ready { CanRun 1 env.old h.old }
     ensures least { OnOk result (RisesBy (run.least_layer (env_of env.old) (out-Statement statement.now)) h.old h.new) }
+    ensures next { (n : ℕ) → CanRun (n + 1) env.old h.old → OnOk result (CanRun n env.new h.new) }
     ensures step { Runs V.counted (IsBareLayer V.counted (out-Statement statement.now)) 0
         (run.run_one (env_of env.old) [] statement.now)
         env.old env.new text.old.items text.new.items h.old h.new result }
@@ -207,4 +209,34 @@ fn run_one<V: Values<Q>, Q: Stock>(
         Statement::Fork { .. } => unreachable!(),
         _ => run_statement(alloc, statement, env, h, text),
     }
+}
+
+/// Runs statements in turn: appends what they print to `text`, and leaves the environment after them.
+///
+/// Copies and units move as by `run_statement`, added up.
+///
+/// Errors: `NoMemory` alone. The text then grew by a front of what `Ok` would have printed.
+///
+/// The statements are those of a script (`IsRunnable`). A holder with 2^40 units and 2^22 for each statement, an
+/// environment that allows at most 2^62 copies, slices that stop that many places below 2^31, and at most 2^30
+/// statements meet the other condition.
+pub fn run_block<V: Values<Q>, Q: Stock>(
+    alloc: Global,
+    block: &[Statement],
+    env: &mut Env<V, Q>,
+    h: &mut Holder<Q>,
+    text: &mut Vec<u8>,
+) -> Result<(), NoMemory>
+    requires block { All (λ s. IsRunnable (out-Statement s)) block.now }
+    requires ready { CanRun (length block.now) env.old h.old }
+    ensures least { OnOk result (RisesBy (run.least_from (env_of env.old) [] block.now) h.old h.new) }
+    ensures steps { Does V.counted (IsBareBlock V.counted block.now) 0 (length block.now)
+        (outcome_of (env_of env.old) block.now)
+        (GrowsWithin text.old.items text.new.items (run.text_from (env_of env.old) [] block.now))
+        env.old env.new text.old.items text.new.items h.old h.new result }
+{
+    for statement in block {
+        run_one(alloc, statement, env, h, text)?;
+    }
+    Ok(())
 }
