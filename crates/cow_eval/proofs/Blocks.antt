@@ -13,7 +13,8 @@ use Rattle.cow_model.specs.declared.plain.Literal.{Literal}
 use Rattle.cow_model.specs.declared.shape.Shape.{Shape}
 use Rattle.cow_model.specs.declared.statement.Statement.{Statement, out-Statement}
 use Rattle.cow_model.proofs.Within.{least_allowed}
-use Rattle.cow_eval.specs.Envs.{Held, Balances}
+use Rattle.cow_eval.specs.Entries.{SeenEntry}
+use Rattle.cow_eval.specs.Envs.{Balances}
 
 -- statements in turn never lower what is allowed
 pub block-rises : (env : Environment) (shapes : List Shape) (ss : List Statement) → env.allowed ≤ (env_after env shapes ss).allowed
@@ -29,7 +30,7 @@ rises-on a b c h h' h'' one two =
     record { copied = omega (arith, first, second); kept = omega (arith, kept, kept-on) }
 
 -- names balance over two steps
-pub balances-on : (p : Literal → Bool) (a b c : List Held) (h h' h'' : Purse) → Balances p 0 a b h h' → Balances p 0 b c h' h'' → Balances p 0 a c h h''
+pub balances-on : (p : Literal → Bool) (a b c : List SeenEntry) (h h' h'' : Purse) → Balances p 0 a b h h' → Balances p 0 b c h' h'' → Balances p 0 a c h h''
 balances-on p a b c h h' h'' one two =
     let first = one.sum in
     let second = two.sum in

@@ -2,7 +2,8 @@
 use Rattle.std.proofs.Common.{◌≡◌, ℕ, ◌<◌, zero, suc, length, get_or, arith, Bool, true, false, List, [], ◌∷◌, Option, Some, None, refl, if◌then◌else◌}
 use Rattle.std.specs.Prelude.{All}
 use Rattle.cow_model.specs.declared.statement.Statement.{Statement, out-Statement}
-use Rattle.cow_eval.specs.Built.{is_built, unbuilt_line, line_of, IsBuilt}
+use Rattle.cow_value.specs.Built.{is_built, line_of}
+use Rattle.cow_eval.specs.Statements.{unbuilt_line, IsBuilt}
 
 choice : (b : Bool) (n : ℕ) (o : Option ℕ) → (if b then o else Some n) ≡ None → (b ≡ true) × (o ≡ None)
 choice true n o e = (refl, e)

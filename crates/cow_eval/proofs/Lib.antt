@@ -1,12 +1,14 @@
 pub mod Apart
 pub mod BareNames
 pub mod Blocks
+pub mod ByOther
 pub mod Costs
 pub mod FirstLine
 pub mod Flags
 pub mod Growth
+pub mod Itself
 pub mod Places
+pub mod Reading
+pub mod Ready
 pub mod Results
-pub mod Spends
-pub mod SpendsBy
 pub mod Steps

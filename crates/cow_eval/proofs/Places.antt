@@ -14,8 +14,8 @@ use Rattle.std.proofs.lemmas.Slice.Eq.{bytes_eq-Decides}
 use Rattle.cow_model.specs.Lexis.{Text}
 use Rattle.cow_model.specs.Env as spec
 use Rattle.cow_model.specs.declared.outcome.Entry.{Entry}
-use Rattle.cow_kinds.specs.Seen.{Seen}
-use Rattle.cow_eval.specs.Envs.{Held, entry_of}
+use Rattle.cow_value.specs.Seen.{Seen}
+use Rattle.cow_eval.specs.Entries.{SeenEntry, entry_of}
 
 -- the first place that passes in a list of images
 pub place-map : {X Y : Type 0} (f : X → Y) (p : Y → Bool) (xs : List X) → position_or_len (λ x. p (f x)) xs ≡ position_or_len p (map f xs)
@@ -64,24 +64,24 @@ stands_at name names at entry place is =
       read = rw place (slice_get-get_or names at entry within ∙ ap Some (sym is));
     }
 
-module _ (name : Text) (names : List Held) (at : ℕ) (e : Held) (place : spec.place_of name (map entry_of names) ≡ Some at) (is : e ≡ get_or names at e) where
+module _ (name : Text) (names : List SeenEntry) (at : ℕ) (e : SeenEntry) (place : spec.place_of name (map entry_of names) ≡ Some at) (is : e ≡ get_or names at e) where
   -- the entry of the definitions there
   pub there : StandsAt name (map entry_of names) at (entry_of e)
   there = stands_at name (map entry_of names) at (entry_of e) place (sym (get_or-map entry_of names at e ∙ ap entry_of (sym is)))
 
   -- an entry of the same name in its place is given to that name
-  pub put-there : (e' : Held) → e'.name ≡ e.name → map entry_of (set names at e') ≡ spec.given (entry_of e') (map entry_of names)
+  pub put-there : (e' : SeenEntry) → e'.name ≡ e.name → map entry_of (set names at e') ≡ spec.given (entry_of e') (map entry_of names)
   put-there e' same =
       let named : e'.name ≡ name = same ∙ there.name_is in
       let put : spec.place_of e'.name (map entry_of names) ≡ Some at = ap (λ n. spec.place_of n (map entry_of names)) named ∙ place in
       map-set entry_of names at e' ∙ sym (ap (λ p. spec.given_at p (entry_of e') (map entry_of names)) put)
 
   -- an entry that looks the same in its place changes nothing
-  pub same-there : (e' : Held) → entry_of e' ≡ entry_of e → map entry_of (set names at e') ≡ map entry_of names
+  pub same-there : (e' : SeenEntry) → entry_of e' ≡ entry_of e → map entry_of (set names at e') ≡ map entry_of names
   same-there e' same = map-set_same entry_of names at e' e (same ∙ ap entry_of is)
 
   -- an entry whose flag falls
-  pub settled-there : (e' : Held) → entry_of e' ≡ spec.shared (entry_of e) → map entry_of (set names at e') ≡ spec.settled name (map entry_of names)
+  pub settled-there : (e' : SeenEntry) → entry_of e' ≡ spec.shared (entry_of e) → map entry_of (set names at e') ≡ spec.settled name (map entry_of names)
   settled-there e' same = rw (there.read, place, ← same) (map-set entry_of names at e')
 
   -- another value in its place is given to that name
@@ -89,8 +89,12 @@ module _ (name : Text) (names : List Held) (at : ℕ) (e : Held) (place : spec.p
   give-there v flag = put-there (record { name = e.name; seen = v; flag = flag }) refl ∙ ap (λ n. spec.given (record { name = n; value = v.value; alone = flag }) (map entry_of names)) there.name_is
 
   -- each name stands where it stood
-  pub still-there : (new : Text) (e' : Held) → e'.name ≡ e.name → spec.place_of new (map entry_of (set names at e')) ≡ spec.place_of new (map entry_of names)
+  pub still-there : (new : Text) (e' : SeenEntry) → e'.name ≡ e.name → spec.place_of new (map entry_of (set names at e')) ≡ spec.place_of new (map entry_of names)
   still-there new e' same =
       let there-now : entry_of e ≡ get_or (map entry_of names) at (entry_of e) = sym (get_or-map entry_of names at e ∙ ap entry_of (sym is)) in
       let alike = ap (λ n. bytes_eq n new) same ∙ ap (λ (x : Entry). bytes_eq x.name new) there-now in
       rw (map-set entry_of names at e', position_or_len-set (λ (x : Entry). bytes_eq x.name new) (map entry_of names) at (entry_of e') (entry_of e) alike, length-set (map entry_of names) at (entry_of e')) refl
+
+-- an entry with the value of another in its place: the values stay
+pub values-there : (names : List SeenEntry) (at : ℕ) (e e' : SeenEntry) → e ≡ get_or names at e → e'.seen ≡ e.seen → map (λ x. x.seen) (set names at e') ≡ map (λ x. x.seen) names
+values-there names at e e' is same = map-set_same (λ x. x.seen) names at e' e (same ∙ ap (λ x. x.seen) is)

@@ -1,25 +1,48 @@
 -- What a statement does to the entry of a name, as the definitions say it of the environment.
-use Rattle.std.proofs.Common.{◌≡◌, if◌then◌else◌, ℕ, ℤ, ◌+◌, ◌++◌, Bool, true, false, List, [], map, get_or, set, Some, Ok, Err, refl, ap, sym, ◌∙◌}
+use Rattle.std.specs.Prelude.{nat_lt}
+use Rattle.std.proofs.Common.{◌≡◌, if◌then◌else◌, ℕ, ℤ, ◌+◌, ◌-◌, ◌<◌, ◌++◌, Bool, true, false, List, [], length, arith, ◌≤◌, Option, None, map, get_or, set, Some, Ok, Err, refl, ap, sym, ◌∙◌}
 use Rattle.std.proofs.lemmas.List.{append-nil}
 use Rattle.std.specs.List.{remove}
 use Rattle.std.specs.Str.{bytes_eq}
 use Rattle.cow_model.specs.Lexis.{Text}
 use Rattle.cow_model.specs.Env as env
 use Rattle.cow_model.specs.Operation.{Answer}
-use Rattle.cow_model.specs.Printed.{refusal}
+use Rattle.cow_model.specs.Printed.{refusal, line, plain_text}
 use Rattle.cow_model.specs.Operation as operation
 use Rattle.cow_model.specs.Query.{Told}
 use Rattle.cow_model.specs.Step as step
-use Rattle.cow_model.specs.Step.{becomes, with_entry, with_found, sliced, gives, settles, second_in, assign_in, slice_in, discard_in, told, ask, told_both, ask_both}
+use Rattle.cow_model.specs.Step.{becomes, with_entry, with_found, sliced, gives, settles, second_in, assign_in, slice_in, discard_in, told, ask, told_both, ask_both, print_in, show_in}
 use Rattle.cow_model.specs.declared.outcome.Entry.{Entry}
 use Rattle.cow_model.specs.declared.outcome.Environment.{Environment}
 use Rattle.cow_model.specs.declared.outcome.Outcome.{Outcome}
 use Rattle.cow_model.specs.declared.refusal.Refusal.{Refusal}
+use Rattle.cow_model.specs.declared.refusal.Refusal.TheVariants.{Full, TextFull}
 use Rattle.cow_model.specs.declared.value.Plain.{Plain}
-use Rattle.cow_kinds.specs.Answers.{verdict, reply_of, told_verdict, told_reply}
-use Rattle.cow_eval.specs.Envs.{Held, Envs, entry_of, env_of}
-use Rattle.cow_eval.specs.Entries.{with_change, entry_after, refusal_or_full}
+use Rattle.std.specs.Option.{unwrap_or}
+use Rattle.cow_model.specs.Answers.{refusal_in, verdict, reply_of, told_verdict, told_reply}
+use Rattle.cow_eval.specs.Entries.{SeenEntry, entry_of, entry_after}
+use Rattle.cow_eval.specs.Envs.{SeenEnv, env_of}
 use Rattle.cow_eval.proofs.Places.{there, put-there, same-there, settled-there, map-remove}
+
+-- a change of the value of a name, for which so many copies are allowed, and of which `alone` tells the flag
+abbrev pub with_change : Environment → Text → (Entry → ℕ) → (Entry → Plain → Bool) → (Entry → Answer) → Outcome
+with_change env name n alone run = with_entry env name (λ e. becomes env name (n e) (alone e) (run e))
+
+-- why a slice isn't made where no name can be given: its own refusal comes first
+abbrev pub refusal_or_full : Answer → Refusal
+refusal_or_full a = unwrap_or (refusal_in a) Full
+
+print-free : (b : Bool) (before : Environment) (text : Text) → before.allowed ≤ (if b then step.refused before TextFull else record { env = record before { room = before.room - length text }; text = text }).env.allowed
+print-free true before text = omega arith
+print-free false before text = omega arith
+
+found-free : (before : Environment) (e : Option Entry) → before.allowed ≤ (with_found before e (λ x. print_in before (line (plain_text x.value)))).env.allowed
+found-free before None = omega arith
+found-free before (Some e) = print-free (nat_lt before.room (length (line (plain_text e.value)))) before (line (plain_text e.value))
+
+-- `show` allows nothing
+pub shows-free : (before : Environment) (name : Text) → before.allowed ≤ (show_in before name).env.allowed
+shows-free before name = found-free before (env.entry_of name before.names)
 
 -- an outcome: the environment that was left, and the text
 pub record Did (after : Environment) (printed : Text) (out : Outcome) : Type 0 where
@@ -75,13 +98,39 @@ unplaced before name other (Err why) room = record { env = refl; text = refl }
 pub second : (before : Environment) (name other : Text) (v : Plain) → env.has_place name before.names ≡ true → Did (gives name v false (settles other before)) [] (second_in before name other v)
 second before name other v place = rw place (record { env = refl; text = refl })
 
-module _ (before : Envs) (name : Text) (at : ℕ) (e : Held) (place : env.place_of name (map entry_of before.names) ≡ Some at) (is : e ≡ get_or before.names at e) where
+-- a line for which there is room
+fits-print : (before : Environment) (text : Text) (left : ℕ) → left + length text ≡ before.room → print_in before text ≡ record { env = record before { room = left }; text = text }
+fits-print before text left sum =
+    let no : nat_lt before.room (length text) ≡ false = search (arith, sum) in
+    let rest : before.room - length text ≡ left = omega (arith, sum) in
+    rw (no, rest) refl
+
+-- and one for which there is none
+longer-print : (before : Environment) (text : Text) → before.room < length text → print_in before text ≡ step.refused before TextFull
+longer-print before text longer =
+    let yes : nat_lt before.room (length text) ≡ true = search (arith, longer) in
+    rw yes refl
+
+module _ (before : SeenEnv) (name : Text) (at : ℕ) (e : SeenEntry) (place : env.place_of name (map entry_of before.names) ≡ Some at) (is : e ≡ get_or before.names at e) where
+  -- what `show` prints
+  pub printed : (left : ℕ) → left + length (line (plain_text e.seen.value)) ≡ before.room →
+      Did (env_of (record { names = before.names; room = left; allowed = before.allowed })) (line (plain_text e.seen.value)) (show_in (env_of before) name)
+  printed left sum =
+      let whole = fits-print (env_of before) (line (plain_text e.seen.value)) left sum in
+      rw ((there name before.names at e place is).read, whole) (record { env = refl; text = refl })
+
+  -- what it doesn't print
+  pub unprinted : before.room < length (line (plain_text e.seen.value)) → Did (env_of before) (refusal TextFull) (show_in (env_of before) name)
+  unprinted longer =
+      let whole = longer-print (env_of before) (line (plain_text e.seen.value)) longer in
+      rw ((there name before.names at e place is).read, whole) (record { env = refl; text = refl })
+
   -- a name whose flag falls
-  pub settled : (e' : Held) → entry_of e' ≡ env.shared (entry_of e) → env_of (record { names = set before.names at e'; room = before.room; allowed = before.allowed }) ≡ settles name (env_of before)
+  pub settled : (e' : SeenEntry) → entry_of e' ≡ env.shared (entry_of e) → env_of (record { names = set before.names at e'; room = before.room; allowed = before.allowed }) ≡ settles name (env_of before)
   settled e' same = ap (λ names. record { names = names; room = before.room; allowed = before.allowed }) (settled-there name before.names at e place is e' same)
 
   -- a second value of it
-  pub assigned : (new : Text) (e' : Held) (v : Plain) → entry_of e' ≡ env.shared (entry_of e) → v ≡ e.seen.value → env.has_place new (map entry_of before.names) ≡ true →
+  pub assigned : (new : Text) (e' : SeenEntry) (v : Plain) → entry_of e' ≡ env.shared (entry_of e) → v ≡ e.seen.value → env.has_place new (map entry_of before.names) ≡ true →
       Did (gives new v false (env_of (record { names = set before.names at e'; room = before.room; allowed = before.allowed }))) [] (assign_in (env_of before) new name)
   assigned new e' v same value room =
       let stands = there name before.names at e place is in
@@ -93,7 +142,7 @@ module _ (before : Envs) (name : Text) (at : ℕ) (e : Held) (place : env.place_
       }
 
   -- a slice of it
-  pub cut : (new : Text) (i j : ℤ) (e' : Held) (v : Plain) → entry_of e' ≡ env.shared (entry_of e) → operation.slice i j e.seen.value ≡ operation.silent v → env.has_place new (map entry_of before.names) ≡ true →
+  pub cut : (new : Text) (i j : ℤ) (e' : SeenEntry) (v : Plain) → entry_of e' ≡ env.shared (entry_of e) → operation.slice i j e.seen.value ≡ operation.silent v → env.has_place new (map entry_of before.names) ≡ true →
       Did (gives new v false (env_of (record { names = set before.names at e'; room = before.room; allowed = before.allowed }))) [] (slice_in (env_of before) new name i j)
   cut new i j e' v same value room =
       let stands = there name before.names at e place is in
@@ -131,7 +180,7 @@ module _ (before : Envs) (name : Text) (at : ℕ) (e : Held) (place : env.place_
       let stands = there name before.names at e place is in
       rw stands.read (asked (env_of before) (ask-of e.seen.value) why no-told)
 
-module _ (before : Envs) (name : Text) {at : ℕ} {e : Held} (e' : Held) (place : env.place_of name (map entry_of before.names) ≡ Some at) (is : e ≡ get_or before.names at e)
+module _ (before : SeenEnv) (name : Text) {at : ℕ} {e : SeenEntry} (e' : SeenEntry) (place : env.place_of name (map entry_of before.names) ≡ Some at) (is : e ≡ get_or before.names at e)
     (n : Entry → ℕ) (alone : Entry → Plain → Bool) (run : Entry → Answer) (after : entry_of e' ≡ entry_after (alone (entry_of e)) (entry_of e) (run (entry_of e))) where
   -- a change that is done
   pub changed : Ok _ ≡ verdict (run (entry_of e)) →
@@ -161,7 +210,7 @@ both-refused before name other (Err found) why is =
     let same : why ≡ found = cc in
     record { env = refl; text = ap refusal same }
 
-module _ (before : Envs) (name other : Text) (at by : ℕ) (e f : Held)
+module _ (before : SeenEnv) (name other : Text) (at by : ℕ) (e f : SeenEntry)
     (place : env.place_of name (map entry_of before.names) ≡ Some at) (is : e ≡ get_or before.names at e)
     (place' : env.place_of other (map entry_of before.names) ≡ Some by) (is' : f ≡ get_or before.names by f) (tell : Plain → Plain → Told) where
   whole-both : ask_both (env_of before) name other tell ≡ told_both (env_of before) name other (tell e.seen.value f.seen.value)

@@ -1,3 +1,3 @@
-pub mod Built
 pub mod Entries
 pub mod Envs
+pub mod Statements

@@ -1,24 +1,22 @@
 // A statement that changes one name's value by another's.
-ghost use Rattle.std.specs.Prelude.{◌≡◌, ◌++◌, ◌^◌, ◌≤◌, ◌<◌, length, true, false, IsOk, IfOk, OnOk, OnErr};
+ghost use Rattle.std.specs.Prelude.{◌≡◌, ◌+◌, ◌*◌, ◌^◌, ◌≤◌, ◌<◌, length, All, ⊤, false};
 ghost use Rattle.std.specs.Str.{bytes_eq};
-ghost use Rattle.cow_model.specs.Changes.{change_by_of};
-ghost use Rattle.cow_model.specs.Operation.{fitting};
-ghost use Rattle.cow_model.specs.Step as spec;
+ghost use Rattle.cow_model.specs.Plain.{stop};
 ghost use Rattle.cow_model.specs.declared.statement.Statement.{out-Statement};
-ghost use Rattle.cow_eval.specs.Entries.{ChangedBy, Paid, SpendsBy};
-ghost use Rattle.cow_eval.specs.Envs.{env_of, IsBare, Balances};
+ghost use Rattle.cow_eval.specs.Envs.{Runs, CanAct, env_of, ChangesBy};
+ghost use Rattle.cow_eval.specs.Statements.{turned_by};
 
 use crate::entry::Entry;
 use crate::env::Env;
 use crate::names::find;
-use crate::statement::{refuse, sum};
+use crate::statement::refuse;
 use cow_cell::{Holder, Stock};
-use cow_kinds::Element;
 use cow_model::{NoMemory, Refusal, Statement};
+use cow_value::Values;
 
 // Changes the value at a place by that at a later one.
-fn change_by_later<T: Element<Q>, Q: Stock>(
-    names: &mut [Entry<T, Q>],
+fn change_by_later<V: Values<Q>, Q: Stock>(
+    names: &mut [Entry<V, Q>],
     at: usize,
     by: usize,
     statement: &Statement,
@@ -26,17 +24,17 @@ fn change_by_later<T: Element<Q>, Q: Stock>(
 ) -> Result<Result<(), Refusal>, NoMemory>
     requires order { at < by }
     requires within { by < length names.old }
+    requires near { All (λ e. stop e.seen.value + 1 ≤ 2 ^ 31) names.old }
     requires spare { 2 ^ 39 ≤ h.old.spare }
-    ensures changed { IfOk result (λ r. ChangedBy (λ v w. fitting (change_by_of (out-Statement statement.now) v w)) at by names.old names.new r) }
-    ensures spends { SpendsBy T.is_counted (λ v w. fitting (change_by_of (out-Statement statement.now) v w)) at by names.old names.new (IsOk result) h.old h.new }
+    ensures { ChangesBy V.counted (out-Statement statement.now) at by names.old names.new h.old h.new result }
 {
     let (front, back) = names.split_at_mut(by);
-    front[at].change_by_entry(statement, &back[0], h)
+    front[at].change_by(statement, &back[0], h)
 }
 
 // Changes the value at a place by that at an earlier one.
-fn change_by_earlier<T: Element<Q>, Q: Stock>(
-    names: &mut [Entry<T, Q>],
+fn change_by_earlier<V: Values<Q>, Q: Stock>(
+    names: &mut [Entry<V, Q>],
     at: usize,
     by: usize,
     statement: &Statement,
@@ -44,17 +42,17 @@ fn change_by_earlier<T: Element<Q>, Q: Stock>(
 ) -> Result<Result<(), Refusal>, NoMemory>
     requires order { by < at }
     requires within { at < length names.old }
+    requires near { All (λ e. stop e.seen.value + 1 ≤ 2 ^ 31) names.old }
     requires spare { 2 ^ 39 ≤ h.old.spare }
-    ensures changed { IfOk result (λ r. ChangedBy (λ v w. fitting (change_by_of (out-Statement statement.now) v w)) at by names.old names.new r) }
-    ensures spends { SpendsBy T.is_counted (λ v w. fitting (change_by_of (out-Statement statement.now) v w)) at by names.old names.new (IsOk result) h.old h.new }
+    ensures { ChangesBy V.counted (out-Statement statement.now) at by names.old names.new h.old h.new result }
 {
     let (front, back) = names.split_at_mut(at);
-    back[0].change_by_entry(statement, &front[by], h)
+    back[0].change_by(statement, &front[by], h)
 }
 
 // Changes the value at a place by that at another.
-fn change_by_place<T: Element<Q>, Q: Stock>(
-    names: &mut Vec<Entry<T, Q>>,
+fn change_by_place<V: Values<Q>, Q: Stock>(
+    names: &mut Vec<Entry<V, Q>>,
     at: usize,
     by: usize,
     statement: &Statement,
@@ -63,9 +61,9 @@ fn change_by_place<T: Element<Q>, Q: Stock>(
     requires apart { at ≡ by → ⊥ }
     requires at { at < length names.old.items }
     requires by { by < length names.old.items }
+    requires near { All (λ e. stop e.seen.value + 1 ≤ 2 ^ 31) names.old.items }
     requires spare { 2 ^ 39 ≤ h.old.spare }
-    ensures changed { IfOk result (λ r. ChangedBy (λ v w. fitting (change_by_of (out-Statement statement.now) v w)) at by names.old.items names.new.items r) }
-    ensures spends { SpendsBy T.is_counted (λ v w. fitting (change_by_of (out-Statement statement.now) v w)) at by names.old.items names.new.items (IsOk result) h.old h.new }
+    ensures { ChangesBy V.counted (out-Statement statement.now) at by names.old.items names.new.items h.old h.new result }
 {
     if at < by {
         change_by_later(names, at, by, statement, h)
@@ -75,27 +73,23 @@ fn change_by_place<T: Element<Q>, Q: Stock>(
 }
 
 // Changes a name's value by itself.
-fn change_by_itself<T: Element<Q>, Q: Stock>(
+fn turn_by_itself<V: Values<Q>, Q: Stock>(
     statement: &Statement,
     name: &[u8],
-    env: &mut Env<T, Q>,
+    env: &mut Env<V, Q>,
     h: &mut Holder<Q>,
     text: &mut Vec<u8>,
 ) -> Result<(), NoMemory>
-    requires spare { 2 ^ 40 ≤ h.old.spare }
-    ensures env { OnOk result (env_of env.new ≡ (spec.change_by (env_of env.old) name.now name.now true (change_by_of (out-Statement statement.now))).env) }
-    ensures text { OnOk result (text.new.items ≡ text.old.items ++ (spec.change_by (env_of env.old) name.now name.now true (change_by_of (out-Statement statement.now))).text) }
-    ensures err { OnErr result (text.new.items ≡ text.old.items) }
-    ensures most { OnErr result (env.new.allowed ≤ (spec.change_by (env_of env.old) name.now name.now true (change_by_of (out-Statement statement.now))).env.allowed) }
-    ensures paid { Paid 0 env.old env.new h.old h.new }
-    ensures bare { IsBare T.is_counted env.old.names → OnOk result (Balances T.is_counted 0 env.old.names env.new.names h.old h.new) }
+    requires ready { CanAct env.old h.old }
+    ensures { Runs V.counted ⊤ 0 (turned_by (env_of env.old) name.now name.now (out-Statement statement.now))
+        env.old env.new text.old.items text.new.items h.old h.new result }
 {
     let Some(at) = find(&env.names, name) else {
         return refuse(text, Refusal::NoName);
     };
     let entry = &mut env.names[at];
     let before = env.allowed;
-    env.allowed = sum(before, entry.both_cost(true) + entry.size())?;
+    env.allowed = before + (entry.both_cost(true) + entry.added(statement)) as u64;
     match entry.change_by_itself(statement, h)? {
         Ok(()) => Ok(()),
         Err(why) => {
@@ -106,22 +100,18 @@ fn change_by_itself<T: Element<Q>, Q: Stock>(
 }
 
 // Changes a name's value by another name's.
-fn change_by_other<T: Element<Q>, Q: Stock>(
+fn turn_by_other<V: Values<Q>, Q: Stock>(
     statement: &Statement,
     name: &[u8],
     other: &[u8],
-    env: &mut Env<T, Q>,
+    env: &mut Env<V, Q>,
     h: &mut Holder<Q>,
     text: &mut Vec<u8>,
 ) -> Result<(), NoMemory>
     requires apart { bytes_eq name.now other.now ≡ false }
-    requires spare { 2 ^ 40 ≤ h.old.spare }
-    ensures env { OnOk result (env_of env.new ≡ (spec.change_by (env_of env.old) name.now other.now true (change_by_of (out-Statement statement.now))).env) }
-    ensures text { OnOk result (text.new.items ≡ text.old.items ++ (spec.change_by (env_of env.old) name.now other.now true (change_by_of (out-Statement statement.now))).text) }
-    ensures err { OnErr result (text.new.items ≡ text.old.items) }
-    ensures most { OnErr result (env.new.allowed ≤ (spec.change_by (env_of env.old) name.now other.now true (change_by_of (out-Statement statement.now))).env.allowed) }
-    ensures paid { Paid 0 env.old env.new h.old h.new }
-    ensures bare { IsBare T.is_counted env.old.names → OnOk result (Balances T.is_counted 0 env.old.names env.new.names h.old h.new) }
+    requires ready { CanAct env.old h.old }
+    ensures { Runs V.counted ⊤ 0 (turned_by (env_of env.old) name.now other.now (out-Statement statement.now))
+        env.old env.new text.old.items text.new.items h.old h.new result }
 {
     let Some(at) = find(&env.names, name) else {
         return refuse(text, Refusal::NoName);
@@ -129,9 +119,9 @@ fn change_by_other<T: Element<Q>, Q: Stock>(
     let Some(by) = find(&env.names, other) else {
         return refuse(text, Refusal::NoName);
     };
-    let copies = env.names[at].both_cost(false) + env.names[by].size();
+    let copies = env.names[at].both_cost(false) + env.names[by].added(statement);
     let before = env.allowed;
-    env.allowed = sum(before, copies)?;
+    env.allowed = before + copies as u64;
     match change_by_place(&mut env.names, at, by, statement, h)? {
         Ok(()) => Ok(()),
         Err(why) => {
@@ -141,26 +131,22 @@ fn change_by_other<T: Element<Q>, Q: Stock>(
     }
 }
 
-/// A statement that changes one value by another, whose elements are added.
-pub fn change_by<T: Element<Q>, Q: Stock>(
+/// A statement that changes one value by another: the row that the table gives it.
+pub fn turn_by<V: Values<Q>, Q: Stock>(
     statement: &Statement,
     name: &[u8],
     other: &[u8],
-    env: &mut Env<T, Q>,
+    env: &mut Env<V, Q>,
     h: &mut Holder<Q>,
     text: &mut Vec<u8>,
 ) -> Result<(), NoMemory>
-    requires spare { 2 ^ 40 ≤ h.old.spare }
-    ensures env { OnOk result (env_of env.new ≡ (spec.change_by (env_of env.old) name.now other.now true (change_by_of (out-Statement statement.now))).env) }
-    ensures text { OnOk result (text.new.items ≡ text.old.items ++ (spec.change_by (env_of env.old) name.now other.now true (change_by_of (out-Statement statement.now))).text) }
-    ensures err { OnErr result (text.new.items ≡ text.old.items) }
-    ensures most { OnErr result (env.new.allowed ≤ (spec.change_by (env_of env.old) name.now other.now true (change_by_of (out-Statement statement.now))).env.allowed) }
-    ensures paid { Paid 0 env.old env.new h.old h.new }
-    ensures bare { IsBare T.is_counted env.old.names → OnOk result (Balances T.is_counted 0 env.old.names env.new.names h.old h.new) }
+    requires ready { CanAct env.old h.old }
+    ensures { Runs V.counted ⊤ 0 (turned_by (env_of env.old) name.now other.now (out-Statement statement.now))
+        env.old env.new text.old.items text.new.items h.old h.new result }
 {
     if name == other {
-        change_by_itself(statement, name, env, h, text)
+        turn_by_itself(statement, name, env, h, text)
     } else {
-        change_by_other(statement, name, other, env, h, text)
+        turn_by_other(statement, name, other, env, h, text)
     }
 }

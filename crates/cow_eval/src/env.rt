@@ -3,15 +3,15 @@ ghost use Rattle.std.specs.Prelude.{◌≡◌, ◌≤◌, ◌+◌, length, ◌++
 ghost use Rattle.cow_model.specs.Env as spec;
 ghost use Rattle.cow_model.specs.Plain.{count, max_count};
 ghost use Rattle.cow_model.specs.Step.{gives};
-ghost use Rattle.cow_kinds.specs.Seen.{units};
-ghost use Rattle.cow_kinds.specs.Values.{seen, plain_of, is_alone};
+ghost use Rattle.cow_value.specs.Seen.{units};
+ghost use Rattle.cow_eval.specs.Entries.{IsKept, SeenEntry};
 ghost use Rattle.cow_eval.specs.Envs.{env_of, IsBare, Balances};
 
 use crate::entry::Entry;
 use crate::names::find;
 use cow_cell::{Holder, Stock};
-use cow_kinds::{Element, Value};
 use cow_model::{Name, NoMemory};
+use cow_value::Values;
 use std::alloc::Global;
 use std::marker::Model;
 
@@ -24,25 +24,29 @@ const MAX_SHOWN: u64 = 4_194_304;
 /// The names of a block with their values, how many bytes `show` may still print, and how many copies the
 /// sharing rule has allowed.
 #[derive(Drop)]
-pub struct Env<T: Element<Q>, Q: Stock> {
-    pub(crate) names: Vec<Entry<T, Q>>,
+pub struct Env<V: Values<Q>, Q: Stock> {
+    pub(crate) names: Vec<Entry<V, Q>>,
     pub(crate) room: u64,
     pub(crate) allowed: u64,
 }
 
-impl<T: Element<Q>, Q: Stock> Model for Env<T, Q> {
-    ghost use Rattle.cow_eval.specs.Envs.{Envs};
+impl<V: Values<Q>, Q: Stock> Model for Env<V, Q> {
+    ghost use Rattle.std.specs.Prelude.{All};
+    ghost use Rattle.cow_eval.specs.Entries.{IsKept};
+    ghost use Rattle.cow_eval.specs.Envs.{SeenEnv};
 
-    ghost Value = { Envs };
+    ghost Value = { SeenEnv };
 
     ghost view = { λ e. record { names = e.names.items; room = e.room; allowed = e.allowed } };
+
+    ghost invariant = { λ e. All IsKept e.names.items };
 }
 
 // Gives the handles of values back.
-fn end_all<T: Element<Q>, Q: Stock>(names: Vec<Entry<T, Q>>, h: &mut Holder<Q>)
+fn end_all<V: Values<Q>, Q: Stock>(names: Vec<Entry<V, Q>>, h: &mut Holder<Q>)
     ensures spare { h.old.spare + length names.items ≤ h.new.spare }
     ensures copied { h.new.copied ≡ h.old.copied }
-    ensures bare { IsBare T.is_counted names.items → h.new.spare ≡ h.old.spare + length names.items }
+    ensures bare { IsBare V.counted names.items → h.new.spare ≡ h.old.spare + length names.items }
 {
     let mut names = names;
     while let Some(entry) = names.pop() {
@@ -50,9 +54,9 @@ fn end_all<T: Element<Q>, Q: Stock>(names: Vec<Entry<T, Q>>, h: &mut Holder<Q>)
     }
 }
 
-impl<T: Element<Q>, Q: Stock> Env<T, Q> {
+impl<V: Values<Q>, Q: Stock> Env<V, Q> {
     /// No names, 4,194,304 bytes of room for `show`, and nothing allowed yet. Takes no memory.
-    pub fn new(alloc: Global) -> Env<T, Q>
+    pub fn new(alloc: Global) -> Env<V, Q>
         ensures start { env_of result ≡ spec.start }
         ensures empty { result.names ≡ [] }
     {
@@ -71,11 +75,11 @@ impl<T: Element<Q>, Q: Stock> Env<T, Q> {
     }
 
     /// Gives the handle of every value back: spare rises by at least the number of names, and by no more where
-    /// no storage holds a counted item.
+    /// no storage holds a unit.
     pub fn end(self, h: &mut Holder<Q>)
         ensures spare { h.old.spare + length self.names ≤ h.new.spare }
         ensures copied { h.new.copied ≡ h.old.copied }
-        ensures bare { IsBare T.is_counted self.names → h.new.spare ≡ h.old.spare + length self.names }
+        ensures bare { IsBare V.counted self.names → h.new.spare ≡ h.old.spare + length self.names }
     {
         end_all(self.names, h);
     }
@@ -92,17 +96,17 @@ impl<T: Element<Q>, Q: Stock> Env<T, Q> {
         &mut self,
         alloc: Global,
         name: &[u8],
-        value: Value<T, Q>,
+        value: V,
         alone: bool,
         h: &mut Holder<Q>,
     ) -> Result<(), NoMemory>
-        requires small { count (plain_of value) ≤ max_count }
-        requires alone { alone ≡ true → is_alone value ≡ true }
-        ensures ok { OnOk result (env_of self.new ≡ record (env_of self.old) { names = (env_of self.old).names ++ (record { name = name.now; value = plain_of value; alone = alone }) ∷ [] }) }
+        requires kept { IsKept (record { name = name.now; seen = V.seen value; flag = alone }) }
+        ensures ok { OnOk result (self.new ≡ record self.old { names = self.old.names
+            ++ (record { name = name.now; seen = V.seen value; flag = alone }) ∷ [] }) }
         ensures err { OnErr result (self.new ≡ self.old) }
         ensures copied { h.new.copied ≡ h.old.copied }
         ensures falls { h.old.spare ≤ h.new.spare }
-        ensures bare { IsBare T.is_counted self.old.names → units T.is_counted (seen value) ≡ 0 → OnOk result (Balances T.is_counted 1 self.old.names self.new.names h.old h.new) }
+        ensures spent { OnOk result (h.new ≡ h.old) }
     {
         let bytes = match Vec::from_slice(alloc, name) {
             Ok(bytes) => bytes,
@@ -126,18 +130,18 @@ impl<T: Element<Q>, Q: Stock> Env<T, Q> {
         &mut self,
         alloc: Global,
         name: &[u8],
-        value: Value<T, Q>,
+        value: V,
         alone: bool,
         h: &mut Holder<Q>,
     ) -> Result<(), NoMemory>
-        requires small { count (plain_of value) ≤ max_count }
-        requires alone { alone ≡ true → is_alone value ≡ true }
+        requires kept { IsKept (record { name = name.now; seen = V.seen value; flag = alone }) }
         ensures there { is_some (spec.place_of name.now (env_of self.old).names) ≡ true → IsOk result }
-        ensures ok { OnOk result (env_of self.new ≡ gives name.now (plain_of value) alone (env_of self.old)) }
+        ensures ok { OnOk result (env_of self.new ≡ gives name.now (V.seen value).value alone (env_of self.old)) }
         ensures allowed { self.new.allowed ≡ self.old.allowed }
         ensures copied { h.new.copied ≡ h.old.copied }
         ensures falls { h.old.spare ≤ h.new.spare }
-        ensures bare { IsBare T.is_counted self.old.names → units T.is_counted (seen value) ≡ 0 → OnOk result (Balances T.is_counted 1 self.old.names self.new.names h.old h.new) }
+        ensures bare { IsBare V.counted self.old.names → units V.counted (V.seen value) ≡ 0 →
+            OnOk result (Balances V.counted 1 self.old.names self.new.names h.old h.new) }
     {
         match find(&self.names, name) {
             Some(at) => {

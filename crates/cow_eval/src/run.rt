@@ -1,69 +1,42 @@
 // Statements in turn.
-ghost use Rattle.std.specs.Prelude.{◌≡◌, ◌++◌, ◌^◌, ◌≤◌, ◌+◌, ◌*◌, [], true, length, All, IsOk, OnOk, OnErr};
-ghost use Rattle.cow_model.specs.Plain.{max_count};
-ghost use Rattle.cow_model.specs.Purse.{RisesBy, RisesWithin};
+ghost use Rattle.std.specs.Prelude.{◌≡◌, ℕ, ◌++◌, ◌^◌, ◌≤◌, ◌+◌, ◌*◌, [], true, length, All, IsOk, OnOk, OnErr};
+ghost use Rattle.cow_model.specs.Atoms.{FitsTexts, counted_in, IsBareStep, IsBareLayer, IsBareBlock};
+ghost use Rattle.cow_model.specs.Fronts.{GrowsWithin};
+ghost use Rattle.cow_model.specs.Purse.{RisesBy};
+ghost use Rattle.cow_model.specs.Run as run;
 ghost use Rattle.cow_model.specs.Sharing as sharing;
 ghost use Rattle.cow_model.specs.Step as spec;
 ghost use Rattle.cow_model.specs.declared.statement.Statement.{out-Statement};
-ghost use Rattle.cow_model.specs.Fronts.{GrowsWithin};
-ghost use Rattle.cow_model.specs.Run as run;
-ghost use Rattle.cow_model.specs.Atoms.{FitsTexts, counted_in, IsBareLayer, IsBareBlock};
-ghost use Rattle.cow_eval.specs.Built.{is_built, IsBuilt, is_free, AreThere};
-ghost use Rattle.cow_eval.specs.Entries.{Paid, most_units};
-ghost use Rattle.cow_eval.specs.Envs.{env_of, IsBare, Balances};
+ghost use Rattle.cow_eval.specs.Envs.{CanAct, CanRun, Does, Reads, Runs, env_of};
+ghost use Rattle.cow_eval.specs.Statements.{IsRunnable, is_free, AreThere, outcome_of};
 
-use crate::both::change_by;
+use crate::both::turn_by;
 use crate::env::Env;
-use crate::statement::{ask, ask_both, assign, change_in, discard, make, pop, show, slice, sum};
+use crate::statement::{ask, ask_both, assign, discard, make, show, slice, turn};
 use cow_cell::{Holder, Stock};
-use cow_kinds::Element;
 use cow_model::{NoMemory, Statement};
+use cow_value::{Values, literals};
 use std::alloc::Global;
 
-/// The spare that a statement asks for.
-const LEAST_SPARE: u64 = 0x100_0000_0000;
-
-// The literal atoms of a statement.
-fn literals(statement: &Statement) -> usize
-    ensures value { result ≡ sharing.literals (out-Statement statement.now) }
-    ensures free { is_free (out-Statement statement.now) ≡ true → result ≡ 0 }
-{
-    match statement {
-        Statement::Let { atoms, .. } | Statement::Splice { atoms, .. } => atoms.len(),
-        Statement::Append { .. }
-        | Statement::Prepend { .. }
-        | Statement::Insert { .. }
-        | Statement::InsertAt { .. }
-        | Statement::Update { .. }
-        | Statement::Remove { .. }
-        | Statement::Set { .. }
-        | Statement::Get { .. }
-        | Statement::Has { .. }
-        | Statement::Place { .. }
-        | Statement::Replace { .. } => 1,
-        Statement::Put { .. } => 2,
-        _ => 0,
-    }
-}
-
 // What a statement that reads values does.
-fn asking<T: Element<Q>, Q: Stock>(
+fn asking<V: Values<Q>, Q: Stock>(
     statement: &Statement,
-    env: &mut Env<T, Q>,
+    env: &mut Env<V, Q>,
     text: &mut Vec<u8>,
 ) -> Result<(), NoMemory>
-    requires built { is_built (out-Statement statement.now) ≡ true }
-    ensures env { OnOk result (env_of env.new ≡ (spec.asking (env_of env.old) (out-Statement statement.now)).env) }
-    ensures text { OnOk result (text.new.items ≡ text.old.items ++ (spec.asking (env_of env.old) (out-Statement statement.now)).text) }
-    ensures err { OnErr result (text.new.items ≡ text.old.items) }
-    ensures names { IsBare T.is_counted env.old.names → IsBare T.is_counted env.new.names × (length env.new.names ≡ length env.old.names) }
-    ensures allowed { env.new.allowed ≡ env.old.allowed }
+    ensures { Reads (spec.asking (env_of env.old) (out-Statement statement.now))
+        env.old env.new text.old.items text.new.items result }
 {
     match statement {
-        Statement::Count { name, .. } | Statement::Get { name, .. } => {
-            ask(statement, name.as_slice(), env, text)
-        }
-        Statement::Equal { name, other, .. } => {
+        Statement::Count { name, .. }
+        | Statement::Get { name, .. }
+        | Statement::At { name, .. }
+        | Statement::Has { name, .. }
+        | Statement::Place { name, .. }
+        | Statement::Peek { name, .. } => ask(statement, name.as_slice(), env, text),
+        Statement::Subset { name, other, .. }
+        | Statement::Disjoint { name, other, .. }
+        | Statement::Equal { name, other, .. } => {
             ask_both(statement, name.as_slice(), other.as_slice(), env, text)
         }
         _ => Ok(()),
@@ -71,87 +44,86 @@ fn asking<T: Element<Q>, Q: Stock>(
 }
 
 // What a statement that changes a value by another does.
-fn changing_by<T: Element<Q>, Q: Stock>(
+fn changing_by<V: Values<Q>, Q: Stock>(
     statement: &Statement,
-    env: &mut Env<T, Q>,
+    env: &mut Env<V, Q>,
     h: &mut Holder<Q>,
     text: &mut Vec<u8>,
 ) -> Result<(), NoMemory>
-    requires built { is_built (out-Statement statement.now) ≡ true }
-    requires spare { 2 ^ 40 ≤ h.old.spare }
-    ensures env { OnOk result (env_of env.new ≡ (spec.changing_by (env_of env.old) (out-Statement statement.now)).env) }
-    ensures text { OnOk result (text.new.items ≡ text.old.items ++ (spec.changing_by (env_of env.old) (out-Statement statement.now)).text) }
-    ensures err { OnErr result (text.new.items ≡ text.old.items) }
-    ensures most { OnErr result (env.new.allowed ≤ (spec.changing_by (env_of env.old) (out-Statement statement.now)).env.allowed) }
-    ensures paid { Paid (sharing.literals (out-Statement statement.now)) env.old env.new h.old h.new }
-    ensures bare { IsBare T.is_counted env.old.names → counted_in T.is_counted (out-Statement statement.now) ≡ 0 → OnOk result (Balances T.is_counted 0 env.old.names env.new.names h.old h.new) }
+    requires ready { CanAct env.old h.old }
+    ensures { Runs V.counted (counted_in V.counted (out-Statement statement.now) ≡ 0)
+        (sharing.literals (out-Statement statement.now))
+        (spec.changing_by (env_of env.old) (out-Statement statement.now))
+        env.old env.new text.old.items text.new.items h.old h.new result }
 {
     match statement {
-        Statement::Extend { name, other, .. } => {
-            change_by(statement, name.as_slice(), other.as_slice(), env, h, text)
+        Statement::Extend { name, other, .. }
+        | Statement::Union { name, other, .. }
+        | Statement::Inter { name, other, .. }
+        | Statement::Minus { name, other, .. }
+        | Statement::SymDiff { name, other, .. }
+        | Statement::Merge { name, other, .. }
+        | Statement::Within { name, other, .. } => {
+            turn_by(statement, name.as_slice(), other.as_slice(), env, h, text)
         }
         _ => asking(statement, env, text),
     }
 }
 
 // What a statement that changes values does.
-fn changing<T: Element<Q>, Q: Stock>(
+fn changing<V: Values<Q>, Q: Stock>(
     alloc: Global,
     statement: &Statement,
-    env: &mut Env<T, Q>,
+    env: &mut Env<V, Q>,
     h: &mut Holder<Q>,
     text: &mut Vec<u8>,
 ) -> Result<(), NoMemory>
-    requires built { is_built (out-Statement statement.now) ≡ true }
-    requires texts { FitsTexts (out-Statement statement.now) }
-    requires few { sharing.literals (out-Statement statement.now) ≤ max_count }
-    requires spare { 2 ^ 40 ≤ h.old.spare }
-    ensures env { OnOk result (env_of env.new ≡ (spec.changing (env_of env.old) (out-Statement statement.now)).env) }
-    ensures text { OnOk result (text.new.items ≡ text.old.items ++ (spec.changing (env_of env.old) (out-Statement statement.now)).text) }
-    ensures err { OnErr result (text.new.items ≡ text.old.items) }
-    ensures most { OnErr result (env.new.allowed ≤ (spec.changing (env_of env.old) (out-Statement statement.now)).env.allowed) }
-    ensures paid { Paid (sharing.literals (out-Statement statement.now)) env.old env.new h.old h.new }
-    ensures bare { IsBare T.is_counted env.old.names → counted_in T.is_counted (out-Statement statement.now) ≡ 0 → OnOk result (Balances T.is_counted 0 env.old.names env.new.names h.old h.new) }
+    requires statement { IsRunnable (out-Statement statement.now) }
+    requires ready { CanAct env.old h.old }
+    ensures { Runs V.counted (counted_in V.counted (out-Statement statement.now) ≡ 0)
+        (sharing.literals (out-Statement statement.now))
+        (spec.changing (env_of env.old) (out-Statement statement.now))
+        env.old env.new text.old.items text.new.items h.old h.new result }
 {
     match statement {
-        Statement::Insert { name, atom, .. } | Statement::Remove { name, atom, .. } => {
-            change_in(alloc, statement, name.as_slice(), Some(atom), env, h, text)
-        }
         Statement::Append { name, .. }
+        | Statement::Prepend { name, .. }
+        | Statement::Insert { name, .. }
         | Statement::InsertAt { name, .. }
+        | Statement::Update { name, .. }
+        | Statement::Remove { name, .. }
+        | Statement::RemoveAt { name, .. }
         | Statement::Set { name, .. }
+        | Statement::Replace { name, .. }
         | Statement::Swap { name, .. }
         | Statement::Reverse { name, .. }
+        | Statement::Rotate { name, .. }
         | Statement::Splice { name, .. }
         | Statement::Reserve { name, .. }
         | Statement::Clear { name, .. }
-        | Statement::Rebase { name, .. } => {
-            change_in(alloc, statement, name.as_slice(), None, env, h, text)
-        }
+        | Statement::Rebase { name, .. }
+        | Statement::Put { name, .. } => turn(alloc, statement, name.as_slice(), env, h, text),
         _ => changing_by(statement, env, h, text),
     }
 }
 
 // What a statement does once its literals are allowed.
-fn act<T: Element<Q>, Q: Stock>(
+fn act<V: Values<Q>, Q: Stock>(
     alloc: Global,
     statement: &Statement,
-    env: &mut Env<T, Q>,
+    env: &mut Env<V, Q>,
     h: &mut Holder<Q>,
     text: &mut Vec<u8>,
 ) -> Result<(), NoMemory>
-    requires built { is_built (out-Statement statement.now) ≡ true }
-    requires texts { FitsTexts (out-Statement statement.now) }
-    requires few { sharing.literals (out-Statement statement.now) ≤ max_count }
-    requires spare { 2 ^ 40 ≤ h.old.spare }
-    ensures there { is_free (out-Statement statement.now) ≡ true → AreThere (env_of env.old).names (out-Statement statement.now) → IsOk result }
-    ensures env { OnOk result (env_of env.new ≡ (spec.act (env_of env.old) [] (out-Statement statement.now)).env) }
-    ensures text { OnOk result (text.new.items ≡ text.old.items ++ (spec.act (env_of env.old) [] (out-Statement statement.now)).text) }
-    ensures err { OnErr result (text.new.items ≡ text.old.items) }
-    ensures most { OnErr result (env.new.allowed ≤ (spec.act (env_of env.old) [] (out-Statement statement.now)).env.allowed) }
+    requires statement { IsRunnable (out-Statement statement.now) }
+    requires ready { CanAct env.old h.old }
+    ensures there { is_free (out-Statement statement.now) ≡ true →
+        AreThere (env_of env.old).names (out-Statement statement.now) → IsOk result }
     ensures least { OnOk result (RisesBy (run.least_layer (env_of env.old) (out-Statement statement.now)) h.old h.new) }
-    ensures paid { Paid (sharing.literals (out-Statement statement.now)) env.old env.new h.old h.new }
-    ensures bare { IsBare T.is_counted env.old.names → counted_in T.is_counted (out-Statement statement.now) ≡ 0 → OnOk result (Balances T.is_counted 0 env.old.names env.new.names h.old h.new) }
+    ensures step { Runs V.counted (IsBareStep V.counted (out-Statement statement.now))
+        (sharing.literals (out-Statement statement.now))
+        (spec.act (env_of env.old) [] (out-Statement statement.now))
+        env.old env.new text.old.items text.new.items h.old h.new result }
 {
     match statement {
         Statement::Let {
@@ -178,7 +150,7 @@ fn act<T: Element<Q>, Q: Stock>(
         }
         Statement::Discard { name, .. } => discard(name.as_slice(), env, h, text),
         Statement::Show { name, .. } => show(name.as_slice(), env, text),
-        Statement::Pop { name, side, .. } => pop(name.as_slice(), *side, env, h, text),
+        Statement::Pop { name, .. } => turn(alloc, statement, name.as_slice(), env, h, text),
         _ => changing(alloc, statement, env, h, text),
     }
 }
@@ -192,60 +164,47 @@ fn act<T: Element<Q>, Q: Stock>(
 /// no text is held or brought in, spare and the number of names add up to as much as before.
 ///
 /// Errors: `NoMemory` alone. The text is then as it was. Of the environment nothing is said but that it can be
-/// ended, and that what it allows covers the copies and is no more than `Ok` would have left. It stands also for
-/// numbers of copies past 64 bits, and for a slice that stops at 2^31, which no script comes near.
+/// ended, and that what it allows covers the copies and is no more than `Ok` would have left.
 ///
-/// The conditions `texts` (no literal text of more than 255 bytes) and `few` (at most 65,536 literals) hold of
-/// every statement of a script.
-pub fn run_statement<T: Element<Q>, Q: Stock>(
+/// The statement is one of a script (`IsRunnable`). A holder with 2^40 units, an environment that allows at most
+/// 2^63 copies, and slices that stop below 2^31 meet the other condition.
+pub fn run_statement<V: Values<Q>, Q: Stock>(
     alloc: Global,
     statement: &Statement,
-    env: &mut Env<T, Q>,
+    env: &mut Env<V, Q>,
     h: &mut Holder<Q>,
     text: &mut Vec<u8>,
 ) -> Result<(), NoMemory>
-    requires built { is_built (out-Statement statement.now) ≡ true }
-    requires texts { FitsTexts (out-Statement statement.now) }
-    requires few { sharing.literals (out-Statement statement.now) ≤ max_count }
-    requires spare { 2 ^ 40 ≤ h.old.spare }
-    ensures there { is_free (out-Statement statement.now) ≡ true → AreThere (env_of env.old).names (out-Statement statement.now) → IsOk result }
-    ensures env { OnOk result (env_of env.new ≡ (spec.step (env_of env.old) [] (out-Statement statement.now)).env) }
-    ensures text { OnOk result (text.new.items ≡ text.old.items ++ (spec.step (env_of env.old) [] (out-Statement statement.now)).text) }
-    ensures err { OnErr result (text.new.items ≡ text.old.items) }
-    ensures most { OnErr result (env.new.allowed ≤ (spec.step (env_of env.old) [] (out-Statement statement.now)).env.allowed) }
-    ensures copied { RisesWithin env.old.allowed env.new.allowed h.old h.new }
+    requires statement { IsRunnable (out-Statement statement.now) }
+    requires ready { CanRun 1 env.old h.old }
+    ensures there { is_free (out-Statement statement.now) ≡ true →
+        AreThere (env_of env.old).names (out-Statement statement.now) → IsOk result }
     ensures least { OnOk result (RisesBy (run.least_layer (env_of env.old) (out-Statement statement.now)) h.old h.new) }
-    ensures falls { h.old.spare ≤ h.new.spare + most_units }
-    ensures bare { IsBare T.is_counted env.old.names → IsBareLayer T.is_counted (out-Statement statement.now) → OnOk result (Balances T.is_counted 0 env.old.names env.new.names h.old h.new) }
+    ensures next { (n : ℕ) → CanRun (n + 1) env.old h.old → OnOk result (CanRun n env.new h.new) }
+    ensures step { Runs V.counted (IsBareStep V.counted (out-Statement statement.now)) 0
+        (spec.step (env_of env.old) [] (out-Statement statement.now))
+        env.old env.new text.old.items text.new.items h.old h.new result }
 {
-    let atoms = literals(statement);
-    env.allowed = sum(env.allowed, atoms)?;
+    env.allowed += literals(statement) as u64;
     act(alloc, statement, env, h, text)
 }
 
 // A statement of a block.
-fn run_one<T: Element<Q>, Q: Stock>(
+fn run_one<V: Values<Q>, Q: Stock>(
     alloc: Global,
     statement: &Statement,
-    env: &mut Env<T, Q>,
+    env: &mut Env<V, Q>,
     h: &mut Holder<Q>,
     text: &mut Vec<u8>,
 ) -> Result<(), NoMemory>
-    requires built { IsBuilt statement.now }
-    requires texts { FitsTexts (out-Statement statement.now) }
-    requires few { sharing.literals (out-Statement statement.now) ≤ max_count }
-    ensures env { OnOk result (env_of env.new ≡ (run.run_one (env_of env.old) [] statement.now).env) }
-    ensures text { OnOk result (text.new.items ≡ text.old.items ++ (run.run_one (env_of env.old) [] statement.now).text) }
-    ensures err { OnErr result (text.new.items ≡ text.old.items) }
-    ensures most { OnErr result (env.new.allowed ≤ (run.run_one (env_of env.old) [] statement.now).env.allowed) }
-    ensures copied { RisesWithin env.old.allowed env.new.allowed h.old h.new }
+    requires statement { IsRunnable (out-Statement statement.now) }
+    requires ready { CanRun 1 env.old h.old }
     ensures least { OnOk result (RisesBy (run.least_layer (env_of env.old) (out-Statement statement.now)) h.old h.new) }
-    ensures falls { h.old.spare ≤ h.new.spare + most_units }
-    ensures bare { IsBare T.is_counted env.old.names → IsBareLayer T.is_counted (out-Statement statement.now) → OnOk result (Balances T.is_counted 0 env.old.names env.new.names h.old h.new) }
+    ensures next { (n : ℕ) → CanRun (n + 1) env.old h.old → OnOk result (CanRun n env.new h.new) }
+    ensures step { Runs V.counted (IsBareLayer V.counted (out-Statement statement.now)) 0
+        (run.run_one (env_of env.old) [] statement.now)
+        env.old env.new text.old.items text.new.items h.old h.new result }
 {
-    if h.spare() < LEAST_SPARE {
-        return Err(NoMemory);
-    }
     match statement {
         Statement::Fork { .. } => unreachable!(),
         _ => run_statement(alloc, statement, env, h, text),
@@ -256,29 +215,25 @@ fn run_one<T: Element<Q>, Q: Stock>(
 ///
 /// Copies and units move as by `run_statement`, added up.
 ///
-/// Errors: `NoMemory` alone. The text then grew by a front of what `Ok` would have printed. It stands also
-/// for a spare of fewer than 2^40 units before a statement, which no script comes near.
+/// Errors: `NoMemory` alone. The text then grew by a front of what `Ok` would have printed.
 ///
-/// The conditions `texts` (no literal text of more than 255 bytes) and `few` (at most 65,536 literals) hold of
-/// every statement of a script.
-pub fn run_block<T: Element<Q>, Q: Stock>(
+/// The statements are those of a script (`IsRunnable`). A holder with 2^40 units and 2^22 for each statement, an
+/// environment that allows at most 2^62 copies, slices that stop that many places below 2^31, and at most 2^30
+/// statements meet the other condition.
+pub fn run_block<V: Values<Q>, Q: Stock>(
     alloc: Global,
     block: &[Statement],
-    env: &mut Env<T, Q>,
+    env: &mut Env<V, Q>,
     h: &mut Holder<Q>,
     text: &mut Vec<u8>,
 ) -> Result<(), NoMemory>
-    requires built { All IsBuilt block.now }
-    requires texts { All (λ s. FitsTexts (out-Statement s)) block.now }
-    requires few { All (λ s. sharing.literals (out-Statement s) ≤ max_count) block.now }
-    ensures env { OnOk result (env_of env.new ≡ run.env_after (env_of env.old) [] block.now) }
-    ensures text { OnOk result (text.new.items ≡ text.old.items ++ run.text_from (env_of env.old) [] block.now) }
-    ensures err { OnErr result (GrowsWithin text.old.items text.new.items (run.text_from (env_of env.old) [] block.now)) }
-    ensures most { OnErr result (env.new.allowed ≤ (run.env_after (env_of env.old) [] block.now).allowed) }
-    ensures copied { RisesWithin env.old.allowed env.new.allowed h.old h.new }
+    requires block { All (λ s. IsRunnable (out-Statement s)) block.now }
+    requires ready { CanRun (length block.now) env.old h.old }
     ensures least { OnOk result (RisesBy (run.least_from (env_of env.old) [] block.now) h.old h.new) }
-    ensures falls { h.old.spare ≤ h.new.spare + length block.now * most_units }
-    ensures bare { IsBare T.is_counted env.old.names → IsBareBlock T.is_counted block.now → OnOk result (Balances T.is_counted 0 env.old.names env.new.names h.old h.new) }
+    ensures steps { Does V.counted (IsBareBlock V.counted block.now) 0 (length block.now)
+        (outcome_of (env_of env.old) block.now)
+        (GrowsWithin text.old.items text.new.items (run.text_from (env_of env.old) [] block.now))
+        env.old env.new text.old.items text.new.items h.old h.new result }
 {
     for statement in block {
         run_one(alloc, statement, env, h, text)?;

@@ -16,12 +16,12 @@ use Rattle.cow_model.specs.Lexis.{Text}
 use Rattle.cow_model.specs.Env.{entry_of, has_place, allow}
 use Rattle.cow_model.specs.Operation as operation
 use Rattle.cow_model.specs.Operation.{Answer, index}
-use Rattle.cow_model.specs.Query as query
 use Rattle.cow_model.specs.Query.{Told}
 use Rattle.cow_model.specs.Lazy.{view}
 use Rattle.cow_model.specs.Printed.{line, plain_text, list_text}
 use Rattle.cow_model.specs.Sharing.{Layer, literals}
-use Rattle.cow_model.specs.Step.{settles, with_found, with_entry, second_in, sliced, print_in, told, ask, told_both, ask_both, becomes, change, change_key, change_by, view_in, shape_of, through, lazy_at, asking, changing_by, changing, act, step}
+use Rattle.cow_model.specs.Step.{settles, with_found, with_entry, second_in, sliced, print_in, told, told_both, becomes, view_in, shape_of, through, lazy_at, act, step}
+use Rattle.cow_model.proofs.StepParts.{Parts, changing-holds}
 
 -- no fewer copies are allowed afterwards
 abbrev pub Keeps : Environment → Outcome → Type 0
@@ -61,10 +61,6 @@ told_keeps : (env : Environment) (answer : Told) → Keeps env (told env answer)
 told_keeps env (Err why) = omega arith
 told_keeps env (Ok text) = omega arith
 
--- a statement that reads one value
-ask_keeps : (env : Environment) (name : Text) (tell : Plain → Told) → Keeps env (ask env name tell)
-ask_keeps env name tell = entry_keeps env name _ (λ e. told_keeps env (tell e.value))
-
 -- one of two environments
 either_allows : (env : Environment) (b : Bool) (x y : Environment) → env.allowed ≤ x.allowed → env.allowed ≤ y.allowed → env.allowed ≤ (if b then x else y).allowed
 either_allows env true x y p q = p
@@ -75,26 +71,10 @@ told_both_keeps : (env : Environment) (name other : Text) (answer : Told) → Ke
 told_both_keeps env name other (Err why) = omega arith
 told_both_keeps env name other (Ok text) = either_allows env (bytes_eq name other) (settles name env) env (omega arith) (omega arith)
 
--- a statement that reads two values
-ask_both_keeps : (env : Environment) (name other : Text) (tell : Plain → Plain → Told) → Keeps env (ask_both env name other tell)
-ask_both_keeps env name other tell = entry_keeps env name _ (λ e. entry_keeps env other _ (λ f. told_both_keeps env name other (tell e.value f.value)))
-
 -- a name's value becomes another
 becomes_keeps : (env : Environment) (name : Text) (n : ℕ) (alone : Plain → Bool) (answer : Answer) → Keeps env (becomes env name n alone answer)
 becomes_keeps env name n alone (Err why) = omega arith
 becomes_keeps env name n alone (Ok done) = omega arith
-
--- a statement that changes one value
-change_keeps : (env : Environment) (name : Text) (run : Plain → Answer) → Keeps env (change env name run)
-change_keeps env name run = entry_keeps env name _ (λ e. becomes_keeps env name _ _ _)
-
--- a statement that changes one key
-change_key_keeps : (env : Environment) (name : Text) (key : Literal) (run : Plain → Answer) → Keeps env (change_key env name key run)
-change_key_keeps env name key run = entry_keeps env name _ (λ e. becomes_keeps env name _ _ _)
-
--- a statement that changes a value by another
-change_by_keeps : (env : Environment) (name other : Text) (adds : Bool) (run : Plain → Plain → Answer) → Keeps env (change_by env name other adds run)
-change_by_keeps env name other adds run = entry_keeps env name _ (λ e. entry_keeps env other _ (λ f. becomes_keeps env name _ _ _))
 
 -- `lazy N I VERB` of these atoms
 view_keeps : (env : Environment) (name : Text) (items seen : List Literal) (asked : Verb) → Keeps env (view_in env name items seen asked)
@@ -114,50 +94,15 @@ lazy_at_keeps env shapes name i asked value = omega arith
 
 -- ---- statements
 
--- a statement that reads values
-asking_keeps : (env : Environment) (s : Layer) → Keeps env (asking env s)
-asking_keeps env (Statement-F.Count l n) = ask_keeps env n query.count_of
-asking_keeps env (Statement-F.Get l n x) = ask_keeps env n (query.get x)
-asking_keeps env (Statement-F.At l n i) = ask_keeps env n (query.at i)
-asking_keeps env (Statement-F.Has l n a) = ask_keeps env n (query.has a)
-asking_keeps env (Statement-F.Place l n a) = ask_keeps env n (query.place a)
-asking_keeps env (Statement-F.Peek l n side) = ask_keeps env n (query.peek side)
-asking_keeps env (Statement-F.Subset l n m) = ask_both_keeps env n m query.subset
-asking_keeps env (Statement-F.Disjoint l n m) = ask_both_keeps env n m query.disjoint
-asking_keeps env (Statement-F.Equal l n m) = ask_both_keeps env n m query.equal
-asking_keeps env s = omega arith
-
--- a statement that changes one value by another, or reads
-changing_by_keeps : (env : Environment) (s : Layer) → Keeps env (changing_by env s)
-changing_by_keeps env (Statement-F.Extend l n m) = change_by_keeps env n m true operation.extend
-changing_by_keeps env (Statement-F.Union l n m) = change_by_keeps env n m true operation.union
-changing_by_keeps env (Statement-F.Inter l n m) = change_by_keeps env n m false operation.inter
-changing_by_keeps env (Statement-F.Minus l n m) = change_by_keeps env n m false operation.minus
-changing_by_keeps env (Statement-F.SymDiff l n m) = change_by_keeps env n m true operation.symdiff
-changing_by_keeps env (Statement-F.Merge l n m take) = change_by_keeps env n m true (operation.merge take)
-changing_by_keeps env (Statement-F.Within l n m) = change_by_keeps env n m false operation.within
-changing_by_keeps env s = asking_keeps env s
-
 -- a statement that changes values, or reads
-changing_keeps : (env : Environment) (s : Layer) → Keeps env (changing env s)
-changing_keeps env (Statement-F.Append l n a) = change_keeps env n (operation.append a)
-changing_keeps env (Statement-F.Prepend l n a) = change_keeps env n (operation.prepend a)
-changing_keeps env (Statement-F.Insert l n a) = change_key_keeps env n a (operation.insert a)
-changing_keeps env (Statement-F.InsertAt l n i a) = change_keeps env n (operation.insert_at i a)
-changing_keeps env (Statement-F.Update l n a) = change_key_keeps env n a (operation.update a)
-changing_keeps env (Statement-F.Remove l n x) = change_key_keeps env n x (operation.remove x)
-changing_keeps env (Statement-F.RemoveAt l n i) = change_keeps env n (operation.remove_at i)
-changing_keeps env (Statement-F.Set l n i a) = change_keeps env n (operation.set i a)
-changing_keeps env (Statement-F.Replace l n side a) = change_keeps env n (operation.replace side a)
-changing_keeps env (Statement-F.Swap l n i j) = change_keeps env n (operation.swap i j)
-changing_keeps env (Statement-F.Reverse l n) = change_keeps env n operation.reversed
-changing_keeps env (Statement-F.Rotate l n c) = change_keeps env n (operation.rotate c)
-changing_keeps env (Statement-F.Splice l n i j atoms) = change_keeps env n (operation.splice i j atoms)
-changing_keeps env (Statement-F.Reserve l n c) = change_keeps env n (operation.reserve c)
-changing_keeps env (Statement-F.Clear l n) = change_keeps env n operation.clear
-changing_keeps env (Statement-F.Rebase l n) = change_keeps env n operation.rebase
-changing_keeps env (Statement-F.Put l n k v) = change_key_keeps env n k (operation.put (record { key = k; value = v }))
-changing_keeps env s = changing_by_keeps env s
+parts_keep : (env : Environment) → Parts (Keeps env) env
+parts_keep env = record {
+  still = omega arith;
+  asks = λ name tells. entry_keeps env name _ (λ e. told_keeps env (tells e.value));
+  asks_both = λ name other tells. entry_keeps env name _ (λ e. entry_keeps env other _ (λ f. told_both_keeps env name other (tells e.value f.value)));
+  turns = λ s name. entry_keeps env name _ (λ e. becomes_keeps env name _ _ _);
+  turns_by = λ s name other adds. entry_keeps env name _ (λ e. entry_keeps env other _ (λ f. becomes_keeps env name _ _ _));
+}
 
 -- what a statement does once its literals are allowed
 act_keeps : (env : Environment) (shapes : List Shape) (s : Layer) → Keeps env (act env shapes s)
@@ -166,9 +111,9 @@ act_keeps env shapes (Statement-F.Assign l n m) = entry_keeps env m _ (λ e. sec
 act_keeps env shapes (Statement-F.Slice l n m i j) = entry_keeps env m _ (λ e. sliced_keeps env n m (operation.slice i j e.value))
 act_keeps env shapes (Statement-F.Discard l n) = entry_keeps env n _ (λ e. omega arith)
 act_keeps env shapes (Statement-F.Show l n) = entry_keeps env n _ (λ e. print_keeps env (line (plain_text e.value)))
-act_keeps env shapes (Statement-F.Pop l n side) = entry_keeps env n _ (λ e. becomes_keeps env n _ _ _)
+act_keeps env shapes (Statement-F.Pop l n side) = (parts_keep env).turns (Statement-F.Pop l n side) n
 act_keeps env shapes (Statement-F.Lazy l n i verb) = entry_keeps env n _ (λ e. lazy_at_keeps env shapes n i verb e.value)
-act_keeps env shapes s = changing_keeps env s
+act_keeps env shapes s = changing-holds (Keeps env) env (parts_keep env) s
 
 -- a statement that is no fork allows its literals at least
 pub step_allows : (env : Environment) (shapes : List Shape) (s : Layer) → env.allowed + literals s ≤ (step env shapes s).env.allowed

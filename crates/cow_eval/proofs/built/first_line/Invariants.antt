@@ -1,5 +1,5 @@
 use Rattle.std.proofs.Common.{◌≡◌, drop}
-use Rattle.cow_eval.specs.Built.{unbuilt_line}
+use Rattle.cow_eval.specs.Statements.{unbuilt_line}
 use Rattle.cow_eval.proofs.built.first_line.Given as goal
 
 -- the statements so far are built

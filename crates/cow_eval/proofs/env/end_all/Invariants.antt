@@ -7,7 +7,7 @@ abbrev pub invariant-loop-entry : goal.invariant-loop-entry
 invariant-loop-entry g l = record {
   spare : l.fn.h.spare + length l.fn.names.items ≤ l.h.spare + length l.names.items;
   copied : l.h.copied ≡ l.fn.h.copied;
-  bare : IsBare g.T.Item.is_counted l.fn.names.items → IsBare g.T.Item.is_counted l.names.items × (l.h.spare + length l.names.items ≡ l.fn.h.spare + length l.fn.names.items);
+  bare : IsBare g.V.Shown.counted l.fn.names.items → IsBare g.V.Shown.counted l.names.items × (l.h.spare + length l.names.items ≡ l.fn.h.spare + length l.fn.names.items);
 }
 
 abbrev pub decreases-loop-entry : goal.decreases-loop-entry

@@ -1,6 +1,6 @@
 use Rattle.std.proofs.Common.{◌∙◌}
 use Rattle.std.specs.Str.{bytes_eq}
-use Rattle.cow_eval.specs.Envs.{entry_of}
+use Rattle.cow_eval.specs.Entries.{entry_of}
 use Rattle.cow_eval.proofs.Places.{position-map}
 use Rattle.cow_eval.proofs.names.find.Goals as goal
 

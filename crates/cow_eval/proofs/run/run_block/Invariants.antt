@@ -1,11 +1,11 @@
-use Rattle.std.proofs.Common.{◌≡◌, ◌≤◌, ◌+◌, ◌*◌, ◌-◌, ◌^◌, ◌++◌, [], drop}
+use Rattle.std.proofs.Common.{◌≡◌, ◌≤◌, ◌+◌, ◌*◌, ◌-◌, ◌^◌, ◌++◌, [], drop, length}
 use Rattle.std.specs.Prelude.{min}
 use Rattle.std.specs.Io.{StartsWith}
 use Rattle.cow_model.specs.Atoms.{IsBareBlock}
 use Rattle.cow_model.specs.Purse.{RisesWithin}
 use Rattle.cow_model.specs.Run.{env_after, text_from, least_from}
 use Rattle.cow_eval.specs.Entries.{most_units}
-use Rattle.cow_eval.specs.Envs.{env_of, IsBare, Balances}
+use Rattle.cow_eval.specs.Envs.{CanRun, env_of, IsBare, Balances}
 use Rattle.cow_eval.proofs.run.run_block.Given as goal
 
 -- what the statements so far did and copied, and what those to come would do
@@ -16,6 +16,7 @@ invariant-loop-statement g l = record {
   kept : StartsWith l.text.items l.fn.text.items;
   copied : RisesWithin l.fn.env.allowed l.env.allowed l.fn.h l.h;
   least : min (l.fn.h.copied + least_from (env_of l.fn.env) [] l.block) (2 ^ 64 - 1) ≤ min (l.h.copied + least_from (env_of l.env) [] (drop l.statement-index l.block)) (2 ^ 64 - 1);
+  ready : CanRun (length (drop l.statement-index l.block)) l.env l.h;
   falls : l.fn.h.spare ≤ l.h.spare + l.statement-index * most_units;
-  bare : IsBare g.T.Item.is_counted l.fn.env.names → IsBareBlock g.T.Item.is_counted l.block → Balances g.T.Item.is_counted 0 l.fn.env.names l.env.names l.fn.h l.h;
+  bare : IsBare g.V.Shown.counted l.fn.env.names → IsBareBlock g.V.Shown.counted l.block → Balances g.V.Shown.counted 0 l.fn.env.names l.env.names l.fn.h l.h;
 }

@@ -1,54 +1,78 @@
-use Rattle.std.specs.Prelude.{IsOk}
-use Rattle.cow_model.specs.Atoms.{counted_in}
-use Rattle.cow_model.specs.Changes.{change_of}
-use Rattle.cow_model.specs.Operation.{fitting}
-use Rattle.cow_model.specs.Sharing.{literals, own_cost}
-use Rattle.cow_model.specs.declared.outcome.Entry.{Entry}
+use Rattle.std.proofs.Common.{arith}
 use Rattle.cow_model.specs.declared.statement.Statement.{out-Statement}
-use Rattle.cow_kinds.specs.Values.{seen, plain_of}
-use Rattle.cow_eval.specs.Envs.{Held, entry_of}
-use Rattle.cow_eval.proofs.Flags.{small-after, first-of, entry-alone, entry-told, alone-told}
-use Rattle.cow_eval.proofs.Spends.{spends-shared, spends-literals}
+use Rattle.cow_value.specs.Seen.{literals_of}
+use Rattle.cow_model.specs.Turns.{turn_of}
+use Rattle.cow_model.proofs.Costs.{cost-kept}
+use Rattle.cow_model.proofs.Counts.{turn-small, small-after}
+use Rattle.cow_model.proofs.Bare.{turn-bare, after-call}
+use Rattle.cow_eval.specs.Entries.{SeenEntry}
+use Rattle.cow_eval.proofs.Flags.{alone-kept, told-kept, alone-changes, told-changes, entry-costs}
 use Rattle.cow_eval.proofs.entry.Entry.change.Goals as goal
 
 pub invariant_of-self : goal.invariant_of-self
 invariant_of-self g c =
-    let v = c.self.inside.value in
-    record {
-      alone = λ f. c.change.ensures.alone.kept (c.self.invariant.alone f);
-      small = small-after c.change.result (plain_of v) (plain_of c.change.new.self) (change_of (out-Statement c.args.statement.now) (plain_of v)) c.change.ensures.value (first-of _ _ c.change.result c.change.ensures.refused) c.self.invariant.small;
-    }
+    let s = out-Statement c.args.statement.now in
+    let t = turn_of s in
+    let r = c.change in
+    let e : SeenEntry = record { name = c.self.inside.name; seen = g.V.Shown.seen c.self.inside.value; flag = c.self.inside.alone } in
+    alone-kept t e c.self.invariant (g.V.Shown.seen r.new.self) r.result r.ensures.does (turn-small s e.seen.value c.self.invariant.small)
 
-pub returns-then-self-clause-entry : goal.returns-then-self-clause-entry
-returns-then-self-clause-entry g c =
-    let v = c.self.inside.value in
-    rw (← c.self.view_is) (entry-alone c.change.result (record { name = c.self.inside.name; value = plain_of v; alone = c.self.inside.alone }) (plain_of c.change.new.self) (fitting (change_of (out-Statement c.args.statement.now) (plain_of v))) c.if-self.true c.change.ensures.value)
+pub returns-then-self-clause-does : goal.returns-then-self-clause-does
+returns-then-self-clause-does g c =
+    let s = out-Statement c.args.statement.now in
+    let t = turn_of s in
+    let r = c.change in
+    let e : SeenEntry = record { name = c.self.inside.name; seen = g.V.Shown.seen c.self.inside.value; flag = c.self.inside.alone } in
+    rw (← c.self.view_is) (alone-changes t e c.self.invariant (g.V.Shown.seen r.new.self) r.result r.ensures.does (λ refused. (r.ensures.paid.free refused).0) c.if-self.true)
+
+pub returns-then-self-clause-costs : goal.returns-then-self-clause-costs
+returns-then-self-clause-costs g c =
+    let p = g.V.Shown.counted in
+    let s = out-Statement c.args.statement.now in
+    let t = turn_of s in
+    let r = c.change in
+    let e : SeenEntry = record { name = c.self.inside.name; seen = g.V.Shown.seen c.self.inside.value; flag = c.self.inside.alone } in
+    let e' : SeenEntry = record { name = e.name; seen = g.V.Shown.seen r.new.self; flag = e.flag } in
+    rw (← c.self.view_is) (entry-costs p (literals_of p s) t e e' c.args.h.now r.new.h r.result r.ensures.paid (cost-kept s e.seen.alone e.flag e.seen.value c.self.invariant.alone) c.self.invariant.small (omega (arith, c.requires.few)) (omega arith) (λ none brings. after-call p _ r.result e.seen.value e'.seen.value (t.run e.seen.value) r.ensures.does.value r.ensures.does.kept none (turn-bare p s e.seen.value none brings)))
 
 pub invariant_of-self-2 : goal.invariant_of-self-2
 invariant_of-self-2 g c =
-    let v = c.self.inside.value in
+    let s = out-Statement c.args.statement.now in
+    let t = turn_of s in
     let r = c.change-result in
-    let a = change_of (out-Statement c.args.statement.now) (plain_of v) in
-    record {
-      alone = rw c.flag_after-self-inside.ensures (alone-told v c.keeps-keeps.result r.result (fitting a) (seen r.new.self) c.keeps-keeps.ensures r.ensures.answer r.ensures.value r.ensures.alone.changed);
-      small = small-after r.result (plain_of v) (plain_of r.new.self) a r.ensures.value (first-of _ _ r.result r.ensures.refused) c.self.invariant.small;
-    }
+    let e : SeenEntry = record { name = c.self.inside.name; seen = g.V.Shown.seen c.self.inside.value; flag = c.self.inside.alone } in
+    rw c.flag_after-self-inside.ensures (told-kept t e c.self.invariant (g.V.Shown.seen r.new.self) r.result r.ensures.does (turn-small s e.seen.value c.self.invariant.small) c.parts-parts.result c.parts-parts.ensures)
 
-pub returns-clause-entry : goal.returns-clause-entry
-returns-clause-entry g c =
-    let v = c.self.inside.value in
+pub returns-clause-does : goal.returns-clause-does
+returns-clause-does g c =
+    let s = out-Statement c.args.statement.now in
+    let t = turn_of s in
     let r = c.change-result in
-    let e : Entry = record { name = c.self.inside.name; value = plain_of v; alone = c.self.inside.alone } in
-    rw (← c.self.view_is, c.flag_after-self-inside.ensures) (entry-told c.keeps-keeps.result r.result e (plain_of r.new.self) (fitting (change_of (out-Statement c.args.statement.now) (plain_of v))) c.if-self.false c.keeps-keeps.ensures r.ensures.answer r.ensures.value)
+    let e : SeenEntry = record { name = c.self.inside.name; seen = g.V.Shown.seen c.self.inside.value; flag = c.self.inside.alone } in
+    rw (← c.self.view_is, c.flag_after-self-inside.ensures) (told-changes t e c.self.invariant (g.V.Shown.seen r.new.self) r.result r.ensures.does (λ refused. (r.ensures.paid.free refused).0) c.if-self.false c.parts-parts.result c.parts-parts.ensures)
 
-pub returns-clause-spends : goal.returns-clause-spends
-returns-clause-spends g c =
-    let p = g.T.Item.is_counted in
-    let statement = out-Statement c.args.statement.now in
-    let v = c.self.inside.value in
+pub returns-clause-costs : goal.returns-clause-costs
+returns-clause-costs g c =
+    let p = g.V.Shown.counted in
+    let s = out-Statement c.args.statement.now in
+    let t = turn_of s in
     let r = c.change-result in
-    let a = fitting (change_of statement (plain_of v)) in
-    let e : Held = record { name = c.self.inside.name; seen = seen v; flag = c.self.inside.alone } in
-    let e' : Held = record { name = e.name; seen = seen r.new.self; flag = c.flag_after-self-inside.result } in
-    rw (← c.self.view_is) (spends-literals p (own_cost (entry_of e)) (literals statement) a _ e e' c.args.h.now r.new.h
-    (spends-shared p (counted_in p statement) (literals statement) a e e' (IsOk r.result) c.args.h.now r.new.h c.if-self.false c.self.invariant.small c.requires.few r.ensures.free r.ensures.bare r.ensures.paid))
+    let e : SeenEntry = record { name = c.self.inside.name; seen = g.V.Shown.seen c.self.inside.value; flag = c.self.inside.alone } in
+    let e' : SeenEntry = record { name = e.name; seen = g.V.Shown.seen r.new.self; flag = c.flag_after-self-inside.result } in
+    rw (← c.self.view_is) (entry-costs p (literals_of p s) t e e' c.args.h.now r.new.h r.result r.ensures.paid (cost-kept s e.seen.alone e.flag e.seen.value c.self.invariant.alone) c.self.invariant.small (omega (arith, c.requires.few)) (omega arith) (λ none brings. after-call p _ r.result e.seen.value e'.seen.value (t.run e.seen.value) r.ensures.does.value r.ensures.does.kept none (turn-bare p s e.seen.value none brings)))
+
+pub returns-then-self-clause-kept : goal.returns-then-self-clause-kept
+returns-then-self-clause-kept g c =
+    let s = out-Statement c.args.statement.now in
+    let t = turn_of s in
+    let r = c.change in
+    let e : SeenEntry = record { name = c.self.inside.name; seen = g.V.Shown.seen c.self.inside.value; flag = c.self.inside.alone } in
+    alone-kept t e c.self.invariant (g.V.Shown.seen r.new.self) r.result r.ensures.does (turn-small s e.seen.value c.self.invariant.small)
+
+pub returns-clause-kept : goal.returns-clause-kept
+returns-clause-kept g c =
+    let s = out-Statement c.args.statement.now in
+    let t = turn_of s in
+    let r = c.change-result in
+    let e : SeenEntry = record { name = c.self.inside.name; seen = g.V.Shown.seen c.self.inside.value; flag = c.self.inside.alone } in
+    rw c.flag_after-self-inside.ensures (told-kept t e c.self.invariant (g.V.Shown.seen r.new.self) r.result r.ensures.does (turn-small s e.seen.value c.self.invariant.small) c.parts-parts.result c.parts-parts.ensures)

@@ -1,40 +1,78 @@
-use Rattle.std.specs.Prelude.{IsOk}
-use Rattle.cow_model.specs.Changes.{change_by_of}
-use Rattle.cow_model.specs.Operation.{fitting}
-use Rattle.cow_model.specs.Plain.{size}
-use Rattle.cow_model.specs.declared.outcome.Entry.{Entry}
+use Rattle.std.proofs.Common.{arith}
 use Rattle.cow_model.specs.declared.statement.Statement.{out-Statement}
-use Rattle.cow_kinds.specs.Seen.{units}
-use Rattle.cow_kinds.specs.Values.{seen, plain_of}
-use Rattle.cow_eval.specs.Envs.{Held}
-use Rattle.cow_eval.proofs.Flags.{small-after, entry-told, alone-told}
-use Rattle.cow_eval.proofs.Spends.{spends-shared, size-small}
+use Rattle.cow_value.specs.Seen.{given_by}
+use Rattle.cow_model.specs.Turns.{turn_by_of}
+use Rattle.cow_model.proofs.Costs.{both-kept, added-most}
+use Rattle.cow_model.proofs.Counts.{turn_by-small}
+use Rattle.cow_model.proofs.Bare.{turn_by-bare, after-call}
+use Rattle.cow_eval.specs.Entries.{SeenEntry}
+use Rattle.cow_eval.proofs.Flags.{alone-kept, told-kept, alone-changes, told-changes, entry-costs, cost-first, nodes-most}
 use Rattle.cow_eval.proofs.entry.Entry.change_by.Goals as goal
+
+pub invariant_of-self : goal.invariant_of-self
+invariant_of-self g c =
+    let s = out-Statement c.args.statement.now in
+    let t = turn_by_of s (g.V.Shown.seen c.other.inside.value).value in
+    let r = c.change_by in
+    let e : SeenEntry = record { name = c.self.inside.name; seen = g.V.Shown.seen c.self.inside.value; flag = c.self.inside.alone } in
+    alone-kept t e c.self.invariant (g.V.Shown.seen r.new.self) r.result r.ensures.does (turn_by-small s e.seen.value (g.V.Shown.seen c.other.inside.value).value c.self.invariant.small)
+
+pub returns-then-self-clause-does : goal.returns-then-self-clause-does
+returns-then-self-clause-does g c =
+    let s = out-Statement c.args.statement.now in
+    let t = turn_by_of s (g.V.Shown.seen c.other.inside.value).value in
+    let r = c.change_by in
+    let e : SeenEntry = record { name = c.self.inside.name; seen = g.V.Shown.seen c.self.inside.value; flag = c.self.inside.alone } in
+    rw (← c.self.view_is, ← c.other.view_is) (alone-changes t e c.self.invariant (g.V.Shown.seen r.new.self) r.result r.ensures.does (λ refused. (r.ensures.paid.free refused).0) c.if-self.true)
+
+pub returns-then-self-clause-costs : goal.returns-then-self-clause-costs
+returns-then-self-clause-costs g c =
+    let p = g.V.Shown.counted in
+    let s = out-Statement c.args.statement.now in
+    let t = turn_by_of s (g.V.Shown.seen c.other.inside.value).value in
+    let r = c.change_by in
+    let e : SeenEntry = record { name = c.self.inside.name; seen = g.V.Shown.seen c.self.inside.value; flag = c.self.inside.alone } in
+    let e' : SeenEntry = record { name = e.name; seen = g.V.Shown.seen r.new.self; flag = e.flag } in
+    rw (← c.self.view_is, ← c.other.view_is) (cost-first _ _ _ (entry-costs p (given_by p s (g.V.Shown.seen c.other.inside.value)) t e e' c.args.h.now r.new.h r.result r.ensures.paid (both-kept e.seen.alone e.flag e.seen.value c.self.invariant.alone) c.self.invariant.small (added-most s (g.V.Shown.seen c.other.inside.value).value c.other.invariant.small) (omega (arith, nodes-most (g.V.Shown.seen c.other.inside.value).value, c.other.invariant.small)) (λ none brings. after-call p _ r.result e.seen.value e'.seen.value (t.run e.seen.value) r.ensures.does.value r.ensures.does.kept none (turn_by-bare p s e.seen.value (g.V.Shown.seen c.other.inside.value).value none (omega (arith, brings))))))
 
 pub invariant_of-self-2 : goal.invariant_of-self-2
 invariant_of-self-2 g c =
-    let v = c.self.inside.value in
+    let s = out-Statement c.args.statement.now in
+    let t = turn_by_of s (g.V.Shown.seen c.other.inside.value).value in
     let r = c.change_by-result in
-    let a = change_by_of (out-Statement c.args.statement.now) (plain_of v) (plain_of c.args.other.now) in
-    record {
-      alone = rw c.flag_after-self-inside.ensures (alone-told v c.keeps_by-keeps.result r.result (fitting a) (seen r.new.self) c.keeps_by-keeps.ensures r.ensures.answer r.ensures.value r.ensures.alone.changed);
-      small = small-after r.result (plain_of v) (plain_of r.new.self) a r.ensures.value r.ensures.refused c.self.invariant.small;
-    }
+    let e : SeenEntry = record { name = c.self.inside.name; seen = g.V.Shown.seen c.self.inside.value; flag = c.self.inside.alone } in
+    rw c.flag_after-self-inside.ensures (told-kept t e c.self.invariant (g.V.Shown.seen r.new.self) r.result r.ensures.does (turn_by-small s e.seen.value (g.V.Shown.seen c.other.inside.value).value c.self.invariant.small) c.parts_by-parts.result c.parts_by-parts.ensures)
 
-pub returns-clause-entry : goal.returns-clause-entry
-returns-clause-entry g c =
-    let v = c.self.inside.value in
+pub returns-clause-does : goal.returns-clause-does
+returns-clause-does g c =
+    let s = out-Statement c.args.statement.now in
+    let t = turn_by_of s (g.V.Shown.seen c.other.inside.value).value in
     let r = c.change_by-result in
-    let e : Entry = record { name = c.self.inside.name; value = plain_of v; alone = c.self.inside.alone } in
-    rw (← c.self.view_is, c.flag_after-self-inside.ensures) (entry-told c.keeps_by-keeps.result r.result e (plain_of r.new.self) (fitting (change_by_of (out-Statement c.args.statement.now) (plain_of v) (plain_of c.args.other.now))) c.if-self.false c.keeps_by-keeps.ensures r.ensures.answer r.ensures.value)
+    let e : SeenEntry = record { name = c.self.inside.name; seen = g.V.Shown.seen c.self.inside.value; flag = c.self.inside.alone } in
+    rw (← c.self.view_is, ← c.other.view_is, c.flag_after-self-inside.ensures) (told-changes t e c.self.invariant (g.V.Shown.seen r.new.self) r.result r.ensures.does (λ refused. (r.ensures.paid.free refused).0) c.if-self.false c.parts_by-parts.result c.parts_by-parts.ensures)
 
-pub returns-clause-spends : goal.returns-clause-spends
-returns-clause-spends g c =
-    let p = g.T.Item.is_counted in
-    let v = c.self.inside.value in
-    let w = c.args.other.now in
+pub returns-clause-costs : goal.returns-clause-costs
+returns-clause-costs g c =
+    let p = g.V.Shown.counted in
+    let s = out-Statement c.args.statement.now in
+    let t = turn_by_of s (g.V.Shown.seen c.other.inside.value).value in
     let r = c.change_by-result in
-    let a = fitting (change_by_of (out-Statement c.args.statement.now) (plain_of v) (plain_of w)) in
-    let e : Held = record { name = c.self.inside.name; seen = seen v; flag = c.self.inside.alone } in
-    let e' : Held = record { name = e.name; seen = seen r.new.self; flag = c.flag_after-self-inside.result } in
-    rw (← c.self.view_is) (spends-shared p (units p (seen w)) (size (plain_of w)) a e e' (IsOk r.result) c.args.h.now r.new.h c.if-self.false c.self.invariant.small (size-small w c.requires.small) r.ensures.free r.ensures.bare r.ensures.paid)
+    let e : SeenEntry = record { name = c.self.inside.name; seen = g.V.Shown.seen c.self.inside.value; flag = c.self.inside.alone } in
+    let e' : SeenEntry = record { name = e.name; seen = g.V.Shown.seen r.new.self; flag = c.flag_after-self-inside.result } in
+    rw (← c.self.view_is, ← c.other.view_is) (cost-first _ _ _ (entry-costs p (given_by p s (g.V.Shown.seen c.other.inside.value)) t e e' c.args.h.now r.new.h r.result r.ensures.paid (both-kept e.seen.alone e.flag e.seen.value c.self.invariant.alone) c.self.invariant.small (added-most s (g.V.Shown.seen c.other.inside.value).value c.other.invariant.small) (omega (arith, nodes-most (g.V.Shown.seen c.other.inside.value).value, c.other.invariant.small)) (λ none brings. after-call p _ r.result e.seen.value e'.seen.value (t.run e.seen.value) r.ensures.does.value r.ensures.does.kept none (turn_by-bare p s e.seen.value (g.V.Shown.seen c.other.inside.value).value none (omega (arith, brings))))))
+
+pub returns-then-self-clause-kept : goal.returns-then-self-clause-kept
+returns-then-self-clause-kept g c =
+    let s = out-Statement c.args.statement.now in
+    let t = turn_by_of s (g.V.Shown.seen c.other.inside.value).value in
+    let r = c.change_by in
+    let e : SeenEntry = record { name = c.self.inside.name; seen = g.V.Shown.seen c.self.inside.value; flag = c.self.inside.alone } in
+    alone-kept t e c.self.invariant (g.V.Shown.seen r.new.self) r.result r.ensures.does (turn_by-small s e.seen.value (g.V.Shown.seen c.other.inside.value).value c.self.invariant.small)
+
+pub returns-clause-kept : goal.returns-clause-kept
+returns-clause-kept g c =
+    let s = out-Statement c.args.statement.now in
+    let t = turn_by_of s (g.V.Shown.seen c.other.inside.value).value in
+    let r = c.change_by-result in
+    let e : SeenEntry = record { name = c.self.inside.name; seen = g.V.Shown.seen c.self.inside.value; flag = c.self.inside.alone } in
+    rw c.flag_after-self-inside.ensures (told-kept t e c.self.invariant (g.V.Shown.seen r.new.self) r.result r.ensures.does (turn_by-small s e.seen.value (g.V.Shown.seen c.other.inside.value).value c.self.invariant.small) c.parts_by-parts.result c.parts_by-parts.ensures)
