@@ -1,5 +1,5 @@
 -- The steps that the calls make, from what is known of the units.
-use Rattle.std.proofs.Common.{◌≡◌, ℕ, ◌+◌, ◌<◌, ◌≤◌, ◌^◌, Option, Some, None, IfSome, IfNone, refl, arith}
+use Rattle.std.proofs.Common.{◌+◌, ◌<◌, ◌≤◌, ◌^◌, Option, Some, None, IfSome, IfNone, refl, arith}
 use Rattle.cow_model.specs.Purse.{Purse}
 use Rattle.cow_cell.specs.OneCell.{Took, make, retain, leave, last, finds_one, finds_more}
 
