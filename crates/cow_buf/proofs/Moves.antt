@@ -37,16 +37,6 @@ module _ {Y : Type 0} (d : Y) where
     splice-out i (inr h) = get_or-append_right (take a ys) (ws ++ drop (a + n) ys) a i d front (omega arith) ∙ get_or-append_right ws (drop (a + n) ys) n (i - a) d long (omega arith)
         ∙ get_or-drop (a + n) ys (i - a - n) d ∙ at_index ys _ i (omega arith)
 
-    -- a list with these elements is the spliced one
-    pub is_spliced : (zs : List Y) → length zs ≡ length ys → ((i : ℕ) → a ≤ i → i < a + n → get_or zs i d ≡ get_or ws (i - a) d)
-        → ((i : ℕ) → (i < a) ⊎ (a + n ≤ i) → get_or zs i d ≡ get_or ys i d) → zs ≡ splice ys a (a + n) ws
-    is_spliced zs same inside outside = ext_get_or d zs (splice ys a (a + n) ws) (same ∙ sym splice-length) (λ i _. by (below_or i a) (below_or i (a + n)))
-      where
-        by : {i : ℕ} → (i < a) ⊎ (a ≤ i) → (i < a + n) ⊎ (a + n ≤ i) → get_or zs i d ≡ get_or (splice ys a (a + n) ws) i d
-        by (inl l) p = outside _ (inl l) ∙ sym (splice-out _ (inl l))
-        by (inr l) (inl h) = inside _ l h ∙ sym (splice-in _ l h)
-        by (inr l) (inr h) = outside _ (inr h) ∙ sym (splice-out _ (inr h))
-
   -- the n elements from `from` on, read one by one
   pub run-length : (ys : List Y) (from n : ℕ) → from + n ≤ length ys → length (take n (drop from ys)) ≡ n
   run-length ys from n fits = length-take-le n (drop from ys) (omega (arith, length-drop from ys))

@@ -6,3 +6,4 @@ pub mod RawBoxes
 pub mod CountSteps
 pub mod UnitSteps
 pub mod Handles
+pub mod Turns

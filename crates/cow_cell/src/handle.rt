@@ -4,6 +4,7 @@ ghost use Rattle.std.specs.Prelude.{◌≡◌, ℕ, ◌+◌, ◌-◌, ◌^◌, �
 ghost use types.Logic.{sem};
 ghost use Rattle.cow_model.specs.Purse.{less, more};
 ghost use Rattle.cow_cell.specs.Follows.{follows_unique};
+ghost use Rattle.cow_cell.specs.OneCell.{Took, make, retain, leave, last, finds_one, finds_more};
 ghost use Rattle.cow_cell.specs.Words.{unsure, Holds};
 
 use crate::block::Block;
@@ -29,6 +30,7 @@ impl<T, Q: Stock> Counted<T, Q> {
         ensures paid { OnOk result (h.new ≡ less 1 h.old) }
         ensures back { IfErr result (λ e. e.1 ≡ value) }
         ensures kept { OnErr result (h.new ≡ h.old) }
+        ensures step { OnOk result (Took make value h.new) }
     {
         match Box::new(alloc, Block { count: 1, value }) {
             Ok(block) => {
@@ -51,7 +53,7 @@ impl<T, Q: Stock> Counted<T, Q> {
         ensures settled { self.new ≡ unsure self.old }
         ensures twin { result ≡ unsure self.old }
         ensures paid { h.new ≡ less 1 h.old }
-        ensures bound { h.old.spare < 2 ^ 62 }
+        ensures step { Took retain self.old.value h.new }
     {
         self.settle();
         self.share_settled(h)
@@ -65,7 +67,7 @@ impl<T, Q: Stock> Counted<T, Q> {
         requires spare { 1 ≤ h.old.spare }
         ensures twin { result ≡ self.now }
         ensures paid { h.new ≡ less 1 h.old }
-        ensures bound { h.old.spare < 2 ^ 62 }
+        ensures step { Took retain self.now.value h.new }
     {
         let twin = self.retain(&mut h.units);
         h.spare -= 1;
@@ -92,9 +94,9 @@ impl<T, Q: Stock> Counted<T, Q> {
         ensures* writes_back { sem 𝓛 (follows_unique T.row Q.row Q.Stock self.entry result) }
         ensures value { IfSome result (λ x. x.now ≡ self.old.value) }
         ensures found { self.old.alone ≡ true → IsSome result }
-        ensures out { IfNone result (h.old.spare < 2 ^ 62 - 1) }
+        ensures one { IfSome result (λ _. Took finds_one self.old.value h.new) }
+        ensures more { IfNone result (Took finds_more self.old.value h.new) }
         ensures purse { h.new ≡ h.old }
-        ensures bound { h.old.spare < 2 ^ 62 }
     {
         self.unique(&mut h.units)
     }
@@ -118,9 +120,9 @@ impl<T, Q: Stock> Counted<T, Q> {
         T: Drop,
         ensures value { IfSome result (λ x. x ≡ self.value) }
         ensures found { self.alone ≡ true → IsSome result }
-        ensures out { IfNone result (h.new.spare < 2 ^ 62) }
+        ensures last { IfSome result (λ _. Took last self.value h.new) }
+        ensures leave { IfNone result (Took leave self.value h.new) }
         ensures paid { h.new ≡ more 1 h.old }
-        ensures bound { h.new.spare ≤ 2 ^ 62 }
     {
         let last = self.release(&mut h.units);
         h.spare += 1;

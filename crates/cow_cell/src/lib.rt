@@ -43,11 +43,13 @@
 //! - `sole` and `end` may answer None wherever another unit of the stock is out, be it of another
 //!   block. A test keeps a second block live and asks for Some. (A handle keeps no flag, so no body
 //!   can tell an alone handle, to which it has to answer Some, from another one that finds 1.)
-//! - A drop has no clause, so one that forgets the block would be proved. Tests count the drops.
+//! - A drop has no clause, so one that forgets the block would be proved. Its step is that of an `end`, and
+//!   no holder gets the unit. Tests count the drops.
 //! - `Opening::new` has no clause. What it makes stands in its type: an `Opening` owns all the units of
 //!   one stock, and no other function makes one.
-//! - No clause says which atomic step a call makes. That is read in the three functions above; the
-//!   invariant lets each change the count by what its handles change, and by nothing else.
+//! - Clauses say which of the six steps of `specs/OneCell.antt` a call made, and what that tells of the
+//!   units. By which atomic instruction it was made is read in the three functions above; the invariant lets
+//!   each change the count by what its handles change, and by nothing else.
 #![tactic(auto)]
 
 mod block;

@@ -2,8 +2,9 @@
 //!
 //! An item is seen by its plain value: a `Literal`, that is an integer or a list of numbers. An item may hold
 //! one handle of counted storage, which is one unit out of its holder. `Item` says how it is copied, settled
-//! and ended, and that `copied` rises by its WEIGHT at each copy. Items have no `Clone`: in generic code
-//! `copy` is the only call that makes a second element.
+//! and ended, and that `copied` rises by its WEIGHT, which is 0 or 1, at each `copy`. Items have no `Clone`: in
+//! generic code `twin` is the only call that makes a second element, and `copy` is `twin` and one count. Whoever
+//! calls `twin` for a run of items counts the run.
 //!
 //! A `Key` is an item with a hash, an equality and an order, each a function of the plain value. So equal keys
 //! have equal hashes, `same` is equality, and `order` is total and agrees with it.

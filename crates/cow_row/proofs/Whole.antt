@@ -1,5 +1,5 @@
 -- Where a row's items end, and what is left where all of them, or those before a run, are out.
-use Rattle.std.proofs.Common.{◌≡◌, ℕ, zero, suc, ◌+◌, ◌-◌, ◌<◌, ◌≤◌, ◌^◌, List, [], ◌∷◌, ◌++◌, map, length, set, replicate, take, drop, Option, Some, None, refl, sym, ap, ◌∙◌, subst, arith, length-set, length-append}
+use Rattle.std.proofs.Common.{◌≡◌, ℕ, zero, suc, ◌+◌, ◌-◌, ◌<◌, ◌≤◌, List, [], ◌∷◌, ◌++◌, map, length, set, replicate, take, drop, Option, Some, None, refl, sym, ap, ◌∙◌, subst, arith, length-set, length-append}
 use Rattle.std.proofs.lemmas.List.{length-replicate, length-take-le, length-drop, replicate-append-replicate, drop-set-lt, take_all}
 use Rattle.cow_buf.specs.Places.{IsRun, IsClear, blanked}
 use Rattle.cow_row.specs.Places.{somes, place, packed, gapped, IsPacked}

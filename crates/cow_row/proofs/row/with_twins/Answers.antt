@@ -1,4 +1,4 @@
-use Rattle.std.proofs.Common.{◌≡◌, ◌+◌, ◌<◌, length, slice_get, Some, refl, arith, append_assoc, length-set}
+use Rattle.std.proofs.Common.{◌+◌, ◌<◌, length, refl, arith, append_assoc, length-set}
 use Rattle.std.proofs.lemmas.List.{map-append}
 use Rattle.cow_model.proofs.ListSteps.{map-take-more, All-push, All-at, count_by_push, unit_if-le}
 use Rattle.cow_row.proofs.Packed.{IsPacked-push, somes-push}

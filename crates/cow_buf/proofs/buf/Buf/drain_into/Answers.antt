@@ -1,6 +1,4 @@
-use Rattle.std.proofs.Common.{◌≡◌, ◌+◌, ◌≤◌, length, arith, ap, sym, ◌∙◌}
-use Rattle.std.proofs.lemmas.List.{length-replicate, length-append, length-drop}
-use Rattle.cow_buf.proofs.Moves.{gap, splice-length, run-length}
+use Rattle.std.proofs.Common.{arith, ◌∙◌}
 use Rattle.cow_buf.proofs.Handed.{left-none, came-all}
 use Rattle.cow_buf.proofs.buf.Buf.drain_into.Goals as goal
 

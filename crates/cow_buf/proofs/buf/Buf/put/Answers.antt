@@ -1,4 +1,4 @@
-use Rattle.std.proofs.Common.{length-set, ◌∙◌, sym}
+use Rattle.std.proofs.Common.{length-set}
 use Rattle.cow_buf.proofs.buf.Buf.put.Goals as goal
 
 pub invariant_of-self : goal.invariant_of-self

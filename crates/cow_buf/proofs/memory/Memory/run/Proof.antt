@@ -2,7 +2,6 @@
 use types.Kit.{flt_l, flt_i}
 use types.Part.{agg}
 use types.Run.{and_then, no_more}
-use denote.Builtin.{SliceRefOf}
 use denote.Slice.{slice_val, elements_shared}
 use Rattle.std.proofs.Common.{map, take, drop}
 use base.Fml.{fhide}
@@ -10,8 +9,8 @@ use denote.Memory.{hidden_shr}
 use denote.Opens.{hide, unhide}
 use denote.Steps.{looks, shuts}
 use denote.Struct.Lending.{lent_out}
-use Rattle.cow_buf.proofs.Walks.{uncapped, is, size_word, times_below, length-map, ◌<◌, ◌≤◌, ◌^◌, arith, subst, tail, El, R, args, ◌≡◌, ℕ, ◌*◌, List, [], ◌∷◌, length, None, refl, sym, ap, ◌∙◌, w64, ◌+◌, get_or, Some, proved, leaves, word, ftrue, flft, Lft, never, SProp, emp, id⊢, ◌⊑◌, fact, fact_i, tables, RefOf, usize, yes, Is, shows, cell_at, uint_vals, uint_Tells, owns, in_a_block, Ptr, block_ptr, shr_Tells, shr_vals, types_at, plain, nothing, heard, peeks, Stays, stay_dropped, walk_of, Goes-dropped, inst_fn, named, Val, vptr, vint, sets_last, alloc_all, pass_all, free_all, look_at, get, sets, env, through, ‵, raw, ◌⊛◌, at_ret, ◌$◌, ◌∵◌, !, qed, by, move, keep, use0, use1, split, join, rewrite, fsplit, fjoin, feq_i, all_of, sub, look_in, stop, fld, of_opd, bin, first, exec, returns, enter, addr, load, size_lit, blocks}
-use Rattle.cow_buf.specs.Block.{row_lends, block_lends}
+use Rattle.cow_buf.proofs.Walks.{uncapped, is, size_word, times_below, length-map, ◌<◌, ◌^◌, arith, subst, tail, El, R, args, ◌≡◌, ℕ, ◌*◌, List, [], ◌∷◌, length, refl, sym, ap, ◌∙◌, w64, ◌+◌, Some, proved, leaves, word, ftrue, flft, Lft, never, SProp, emp, id⊢, ◌⊑◌, fact, fact_i, tables, RefOf, usize, yes, Is, shows, cell_at, uint_vals, uint_Tells, owns, in_a_block, Ptr, block_ptr, shr_Tells, shr_vals, types_at, plain, nothing, heard, peeks, Stays, stay_dropped, walk_of, Goes-dropped, inst_fn, named, Val, vptr, vint, sets_last, alloc_all, pass_all, free_all, look_at, get, sets, env, through, ‵, raw, ◌⊛◌, at_ret, ◌$◌, ◌∵◌, !, qed, by, move, keep, use0, use1, split, join, rewrite, fsplit, fjoin, feq_i, all_of, sub, look_in, stop, fld, of_opd, bin, first, exec, returns, enter, load, blocks}
+use Rattle.cow_buf.specs.Block.{block_lends}
 use Rattle.cow_buf.specs.Places.{IsRun}
 use Rattle.cow_buf.proofs.Fields.{Fields, told, opened, Mem}
 use Rattle.cow_buf.proofs.Rows.{run_seen, end_fits, Place, sz}

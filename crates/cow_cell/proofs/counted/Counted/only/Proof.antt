@@ -1,48 +1,40 @@
 -- An alone handle lends its value, with no step. Assumes `Logic`.
-use Rattle.std.proofs.Common.{◌≡◌, ◌≢◌, ℕ, ◌+◌, ◌^◌, ◌<◌, T, Bool, true, false, List, [], ◌∷◌, sym, refl, ap, ◌∙◌, subst, lit<, MutBor, Some, None}
+use Rattle.std.proofs.Common.{◌≡◌, ℕ, ◌+◌, Bool, true, List, [], ◌∷◌, sym, refl, ap, ◌∙◌, MutBor}
 use mir.Syntax.{dcons, dnil, a_type, named}
-use mir.Val.{Val, vptr, vcons, vnil}
+use mir.Val.{Val, vptr}
 use mir.MapTy.{inst_fn}
 use base.Fraction.{full_share}
-use base.Logic.{SProp, ent, sep, emp, via, guard_i}
-use base.Fml.{Lft, GName, Share, Fml, ftrue, fsep, flft, fres}
+use base.Logic.{SProp, ent, sep, emp, guard_i}
+use base.Fml.{Lft, GName, Share, Fml, ftrue, fsep, flft}
 use types.Logic.{sem}
-use types.Kit.{‵, raw, ◌⊛◌, some, given, later, mean, at_ret, ◌$◌, ◌∵◌, !, qed, by, move, keep, drop, split, split3, join, group, fsplit, fsplit3, fjoin, fjoin3, fpick, fpack, pick, learn, use0, use1, use2, await, rewrite, feq_i, done}
-use types.Run.{stop, fld, load, addr, lit, of_opd, bin, no_more, and_then, first, blocks, skips, branches, exec, Calls-last, returns, returns_within, enter}
-use types.ByLocal.{alloc_all, pass_all, free_all, look_at, get, through, sets, sets_last, lands_last, env}
-use types.Match.{live}
-use types.Part.{agg, sub, whole, look_in}
+use types.Kit.{‵, raw, ◌⊛◌, some, given, later, at_ret, ◌$◌, ◌∵◌, !, qed, by, move, keep, split, split3, join, group, fsplit, fsplit3, fjoin, fjoin3, fpack, pick, learn, use0, use1, await, rewrite, done}
+use types.Run.{stop, fld, load, addr, of_opd, first, blocks, exec, returns, enter}
+use types.ByLocal.{alloc_all, pass_all, free_all, look_at, get, through, sets, sets_last, env}
+use types.Part.{sub, whole, look_in}
 use contract.Running.{tables}
 use contract.Monad.{fact, fact_i, fact_use}
 use denote.Exit.{no}
 use denote.RattleType.{RattleType, owns}
 use denote.Signature.{types_at, plain, mut_ref_to}
 use denote.RawPtr.{Ptr, InBlock, block_ptr, block_of, count_of, at_block}
-use denote.Steps.{heard, nothing, opens, closes, peeks}
+use denote.Steps.{heard, nothing, opens, peeks}
 use denote.Laws.{Is, shows}
 use denote.Memory.{mem, part_of, cell_at}
 use denote.Param.{param, bounded}
 use denote.Ref.{MutRef, mut_vals, mut_Tells}
-use denote.Triple.Walked.{Stays, stay_dropped, stay_ref, walk_of, Goes-ref, Goes-spent_ref}
+use denote.Triple.Walked.{Stays, stay_dropped, walk_of, Goes-spent_ref}
 use Rattle.core.proofs.atomic.Steps.{tail}
 use Rattle.atomic_table.proofs.Walks.{proved, leaves}
-use Rattle.atomic_table.proofs.Calls.{fm, seq_cst, found, finds, loads}
 use Rattle.cow_cell.specs.Stock.{units}
-use Rattle.cow_cell.specs.contracts.units.Units as tokens
 use denote.Struct.Owning.{to}
-use Rattle.cow_cell.specs.Cell.{offset, value_at, body, owns_counted, cell_owns}
+use Rattle.cow_cell.specs.Cell.{offset, value_at, cell_owns}
 use Rattle.cow_cell.specs.contracts.counted.Counted as hand
 use Rattle.cow_cell.proofs.Fields.{hand_of, HandleFields, hand_told, owns_placed}
-use Rattle.cow_cell.proofs.CountSteps.{got_back, Sole, after_test, tests}
 use Rattle.cow_cell.specs.contracts.counted.Counted.only.{ended, clauses}
 use Rattle.cow_cell.specs.contracts.counted.Counted.only.Key.{name as #self}
 use Rattle.cow_cell.proofs.counted.Counted.only.Statement.{statement}
 use Rattle.cow_cell.proofs.counted.Counted.only.Code as code
-use base.Logic.{all_e}
-use Rattle.std.specs.Prelude.{IfSome, IsSome, IsNone}
-use Rattle.core.specs.contracts.option.Option as Opt
-use Rattle.std_alloc.proofs.RcSteps.{is_not, is_so, Some-of, none_of}
-use denote.Follow.{follows, follows_by, lends_Part}
+use denote.Follow.{follows, lends_Part}
 use Rattle.cow_cell.specs.Cell.{frees, joins}
 use Rattle.cow_cell.specs.Follows.{written}
 use Rattle.core.specs.Sync.RawAtomic.{word}

@@ -1,4 +1,3 @@
-use Rattle.std.proofs.Common.{◌≡◌}
 use Rattle.cow_row.proofs.Whole.{all_run, shown}
 use Rattle.cow_row.proofs.row.Row.as_slice.Goals as goal
 

@@ -1,4 +1,4 @@
-use Rattle.std.proofs.Common.{◌≡◌, ◌+◌, ◌<◌, length, arith, ◌∙◌}
+use Rattle.std.proofs.Common.{◌≡◌, arith, ◌∙◌}
 use Rattle.cow_row.proofs.Splices.{run-filled, place-blanked, blank-more}
 use Rattle.cow_row.proofs.Whole.{all_run, none-left}
 use Rattle.cow_row.proofs.row.Row.drop.Goals as goal
