@@ -6,4 +6,5 @@ pub mod Digits
 pub mod Escapes
 pub mod Fronts
 pub mod LinesRead
+pub mod Places
 pub mod TokenTexts

@@ -1,12 +1,14 @@
 -- What a function that reads answers, for what the definitions say.
-use Rattle.std.specs.Prelude.{◌≡◌, ℕ, List, [], ◌∷◌, Result, Ok, Err, ⊤}
+use Rattle.std.specs.Prelude.{◌≡◌, ℕ, List, [], ◌∷◌, Option, Some, None, Result, Ok, Err, ⊤}
 use Rattle.std.specs.Borrow.{Bor}
 use Rattle.cow_model.specs.declared.fault.Flaw.{Flaw}
 use Rattle.cow_model.specs.declared.fault.Flaw.TheVariants.{BadWord}
 use Rattle.cow_model.specs.declared.fault.ParseFault.{ParseFault}
 use Rattle.cow_model.specs.declared.statement.Statement.{Statement}
+use Rattle.cow_model.specs.declared.plain.Literal.{Literal}
 use Rattle.cow_model.specs.Lexis.{Text}
 use Rattle.cow_model.specs.Parse.{fault_at}
+use Rattle.cow_model.specs.Readers.{numbered_atom}
 use Rattle.cow_script.specs.declared.script.ParseStop.{ParseStop}
 use Rattle.cow_script.specs.declared.script.ParseStop.TheVariants as parse_stop
 use Rattle.cow_script.specs.declared.script.Script.{Script}
@@ -42,6 +44,12 @@ Parses said (Err why) = Stops said why
 abbrev pub Takes : List Text → Result (Bor Text) Flaw → List Text → Type 0
 Takes tokens (Ok token) left = tokens ≡ token.now ∷ left
 Takes tokens (Err flaw) left = (tokens ≡ []) × (left ≡ []) × (flaw ≡ BadWord)
+
+-- the next token was taken and is this atom behind so many others, or there was none
+abbrev pub NextAtom : ℕ → List Text → Result (Option Literal) Stop → List Text → Type 0
+NextAtom n tokens (Ok (Some atom)) left = (token : Text) × (tokens ≡ token ∷ left) × (numbered_atom n token ≡ Ok atom)
+NextAtom n tokens (Ok None) left = (tokens ≡ []) × (left ≡ [])
+NextAtom n tokens (Err why) left = (token : Text) × (rest : List Text) × (tokens ≡ token ∷ rest) × Fails why (numbered_atom n token)
 
 -- why a script ends at this line
 abbrev pub stop_at : ℕ → Stop → ParseStop

@@ -3,10 +3,12 @@ ghost use Rattle.std.specs.Prelude.{◌≡◌, ◌<◌, [], ◌∷◌, ◌==◌,
 ghost use Rattle.std.specs.List.{position, before_first, after_first};
 ghost use Rattle.cow_model.specs.Lexis as spec;
 
+use memchr::memchr;
+
 fn place_of(text: &[u8], byte: u8) -> Option<usize>
     ensures { result ≡ position (λ b. b == byte) text.now }
 {
-    text.iter().position(|b| *b == byte)
+    memchr(byte, text)
 }
 
 // What stands before the first such byte, and what stands behind it.
@@ -42,5 +44,9 @@ fn is_printable_byte(byte: u8) -> bool
 pub fn is_printable(line: &[u8]) -> bool
     ensures { result ≡ spec.is_printable line.now }
 {
-    line.iter().all(|byte| is_printable_byte(*byte))
+    let mut all = true;
+    for byte in line {
+        all &= is_printable_byte(*byte);
+    }
+    all
 }

@@ -1,7 +1,9 @@
 // Lists up to the end of a line.
-ghost use Rattle.std.specs.Prelude.{◌≡◌};
+ghost use Rattle.std.specs.Prelude.{◌≡◌, ◌+◌, nat_lt, Ok, Err, if◌then◌else◌};
 ghost use Rattle.cow_model.specs.Readers as spec;
-ghost use Rattle.cow_script.specs.Reads.{Gives, Reads};
+ghost use Rattle.cow_model.specs.declared.fault.Flaw.TheVariants.{Limit};
+ghost use Rattle.cow_model.specs.declared.plain.Literal.TheVariants as literal;
+ghost use Rattle.cow_script.specs.Reads.{Gives, NextAtom, Reads};
 
 use crate::atoms::atom;
 use crate::readers::name;
@@ -29,13 +31,38 @@ fn numbered_atom(alloc: Global, n: usize, token: &[u8]) -> Result<Literal, Stop>
     Ok(atom)
 }
 
+// An integer behind `n` other atoms.
+fn numbered_integer(n: usize, x: i64) -> Result<Literal, Stop>
+    ensures { Gives (if nat_lt n spec.max_atoms then Ok (literal.Int x) else Err (Limit (spec.max_atoms + 1) spec.max_atoms)) result }
+{
+    if n >= MAX_ATOMS {
+        return Err(Stop::Flaw(Flaw::Limit {
+            quantity: MAX_ATOMS as u64 + 1,
+            bound: MAX_ATOMS as u64,
+        }));
+    }
+    Ok(Literal::Int(x))
+}
+
+// The next atom, behind `n` others, unless there is none.
+fn next_atom(alloc: Global, n: usize, tokens: &mut Tokens<'_>) -> Result<Option<Literal>, Stop>
+    ensures { NextAtom n tokens.old result tokens.new }
+{
+    if let Some((x, _)) = tokens.next_integer() {
+        return Ok(Some(numbered_integer(n, x)?));
+    }
+    match tokens.next() {
+        None => Ok(None),
+        Some(token) => Ok(Some(numbered_atom(alloc, n, token)?)),
+    }
+}
+
 /// Atoms are due up to the end of the line.
 pub fn all_atoms(alloc: Global, tokens: &mut Tokens<'_>) -> Result<Items<Literal>, Stop>
     ensures { Reads (spec.all_atoms tokens.old) result tokens.new }
 {
     let mut atoms = Vec::new(alloc);
-    while let Some(token) = tokens.next() {
-        let atom = numbered_atom(alloc, atoms.len(), token)?;
+    while let Some(atom) = next_atom(alloc, atoms.len(), tokens)? {
         atoms.push(atom)?;
     }
     Ok(Items::from_vec(atoms))

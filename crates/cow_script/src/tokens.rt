@@ -1,9 +1,12 @@
-ghost use Rattle.std.specs.Prelude.{◌≡◌, ◌+◌, ◌<◌, [], ◌∷◌, length, take, drop, nat_le, MatchOption};
+ghost use Rattle.std.specs.Prelude.{◌≡◌, ◌+◌, ◌<◌, [], ◌∷◌, length, take, drop, nat_le, MatchOption, Ok, ⊤};
 ghost use Rattle.cow_model.specs.Lexis as spec;
 ghost use Rattle.cow_model.specs.Lexis.{tokens_of};
-ghost use Rattle.cow_model.specs.declared.reading.Quoting.TheVariants.{Start};
+ghost use Rattle.cow_model.specs.declared.reading.Quoting.TheVariants.{Start, Plain};
+ghost use Rattle.cow_model.specs.Atom.{atom_of};
+ghost use Rattle.cow_model.specs.declared.plain.Literal.TheVariants as literal;
 ghost use Rattle.cow_script.specs.Cuts.{cut_len};
 
+use crate::integers::front_number;
 use cow_model::Quoting;
 use std::marker::Model;
 
@@ -43,8 +46,20 @@ fn quoting_after(at: Quoting, byte: u8) -> Quoting
     }
 }
 
-// How many bytes stand before the first cut.
-fn token_len(line: &[u8]) -> usize
+// How many bytes stand before the first space.
+fn plain_len(line: &[u8]) -> usize
+    ensures { result ≡ cut_len Plain line.now }
+{
+    for (i, byte) in line.iter().enumerate() {
+        if *byte == b' ' {
+            return i;
+        }
+    }
+    line.len()
+}
+
+// How many bytes stand before the first cut, where a text may stand among them.
+fn quoted_len(line: &[u8]) -> usize
     ensures { result ≡ cut_len Start line.now }
 {
     let mut at = Quoting::Start;
@@ -55,6 +70,16 @@ fn token_len(line: &[u8]) -> usize
         at = quoting_after(at, *byte);
     }
     line.len()
+}
+
+// How many bytes stand before the first cut.
+fn token_len(line: &[u8]) -> usize
+    ensures { result ≡ cut_len Start line.now }
+{
+    match line {
+        [b'"', ..] => quoted_len(line),
+        _ => plain_len(line),
+    }
 }
 
 // What stands before the first cut, and what stands behind it.
@@ -86,6 +111,26 @@ fn next_token(line: &[u8]) -> Option<(&[u8], &[u8])>
     None
 }
 
+// The first token and what stands behind it, where the line begins with an integer of 18 digits at most
+// whose first is `1` to `9`.
+fn integer_token(line: &[u8]) -> Option<(i64, &[u8], &[u8])>
+    ensures token { MatchOption result ⊤ (λ cut. tokens_of line.now ≡ cut.1.now ∷ tokens_of cut.2.now) }
+    ensures value { MatchOption result ⊤ (λ cut. atom_of cut.1.now ≡ Ok (literal.Int cut.0)) }
+{
+    let (number, len) = front_number(line);
+    if len == 0 || line[0] == b'0' {
+        return None;
+    }
+    let token = &line[..len];
+    if len == line.len() {
+        return Some((number as i64, token, &[]));
+    }
+    if line[len] != b' ' {
+        return None;
+    }
+    Some((number as i64, token, &line[len + 1..]))
+}
+
 impl<'a> Tokens<'a> {
     /// The tokens of a line.
     pub fn new(line: &'a [u8]) -> Tokens<'a>
@@ -101,6 +146,16 @@ impl<'a> Tokens<'a> {
         let (token, after) = next_token(self.rest)?;
         self.rest = after;
         Some(token)
+    }
+
+    /// The next token where it is an integer that is read in one pass, and its number. Otherwise nothing is taken.
+    pub fn next_integer(&mut self) -> Option<(i64, &'a [u8])>
+        ensures token { MatchOption result (self.new ≡ self.old) (λ cut. self.old ≡ cut.1.now ∷ self.new) }
+        ensures value { MatchOption result ⊤ (λ cut. atom_of cut.1.now ≡ Ok (literal.Int cut.0)) }
+    {
+        let (x, token, after) = integer_token(self.rest)?;
+        self.rest = after;
+        Some((x, token))
     }
 
     /// Whether three tokens are left at least.
