@@ -1,5 +1,5 @@
 -- What is printed of atoms behind references.
-use Rattle.std.specs.Prelude.{ℕ, Bool, ◌==◌, ◌||◌, List, ◌++◌, codes}
+use Rattle.std.specs.Prelude.{List, ◌++◌, codes}
 use Rattle.std.specs.Borrow.{Bor}
 use Rattle.cow_model.specs.Lexis.{Text}
 use Rattle.cow_model.specs.Printed.{separated}
@@ -7,10 +7,6 @@ use Rattle.cow_model.specs.declared.plain.Literal.{Literal}
 use Rattle.cow_model.specs.declared.value.Pair.{Pair}
 use Rattle.cow_item.specs.declared.atom.Atom.{Atom}
 use Rattle.cow_item.specs.Atoms.{plain_of_atom}
-
--- whether a byte of a text is printed behind a `\`
-abbrev pub is_escaped : ℕ → Bool
-is_escaped b = b == 34 || b == 92
 
 -- the plain value of an atom
 abbrev pub plain_of : {Q : Type 0} → Bor (Atom Q) → Literal

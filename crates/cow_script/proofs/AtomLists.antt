@@ -44,21 +44,25 @@ next found n tokens token rest whole answer so_far cut count is =
 
 -- ---- by what `next_atom` answers
 
-some_by : (answer : Result Literal Flaw) (rest left : List Text) (atom : Literal) → and_then answer (λ a. Ok (Some a, rest)) ≡ Ok (Some atom, left) → (left ≡ rest) × (answer ≡ Ok atom)
+-- what `atom_ahead` says of a token, by its atom
+abbrev ahead_by : Result Literal Flaw → List Text → Result (Option Literal × List Text) Flaw
+ahead_by answer rest = and_then answer (λ a. Ok (Some a, rest))
+
+some_by : (answer : Result Literal Flaw) (rest left : List Text) (atom : Literal) → ahead_by answer rest ≡ Ok (Some atom, left) → (left ≡ rest) × (answer ≡ Ok atom)
 some_by (Ok a) rest left atom is =
     let same : ◌≡◌ {A = Option Literal × List Text} (Some a, rest) (Some atom, left) = cc in
     let value : Some a ≡ Some atom = ap (λ (p : Option Literal × List Text). p.0) same in
     (sym (ap (λ (p : Option Literal × List Text). p.1) same), (let equal : a ≡ atom = cc in ap Ok equal))
 some_by (Err flaw) rest left atom is = cc
 
-none_by : (answer : Result Literal Flaw) (rest left : List Text) → and_then answer (λ a. Ok (Some a, rest)) ≡ Ok (None, left) → ⊥
+none_by : (answer : Result Literal Flaw) (rest left : List Text) → ahead_by answer rest ≡ Ok (None, left) → ⊥
 none_by (Ok a) rest left is =
     let same : ◌≡◌ {A = Option Literal × List Text} (Some a, rest) (None, left) = cc in
     let value : Some a ≡ None = ap (λ (p : Option Literal × List Text). p.0) same in
     cc
 none_by (Err flaw) rest left is = cc
 
-flaw_by : (answer : Result Literal Flaw) (rest : List Text) (flaw : Flaw) → and_then answer (λ a. Ok (Some a, rest)) ≡ Err flaw → answer ≡ Err flaw
+flaw_by : (answer : Result Literal Flaw) (rest : List Text) (flaw : Flaw) → ahead_by answer rest ≡ Err flaw → answer ≡ Err flaw
 flaw_by (Ok a) rest flaw is = cc
 flaw_by (Err other) rest flaw is = cc
 
@@ -66,7 +70,13 @@ flaw_by (Err other) rest flaw is = cc
 abbrev pub one_more : ℕ → Result (Unit {0}) Flaw
 one_more n = if nat_lt n max_atoms then Ok tt else Err (Limit (max_atoms + 1) max_atoms)
 
-room_by : (t : Bool) (atom : Literal) (full : Flaw) → cond t (Ok atom) (Err full) ≡ and_then (cond t (Ok tt) (Err full)) (λ _. Ok atom)
+abbrev room : Bool → Flaw → Result (Unit {0}) Flaw
+room t full = cond t (Ok tt) (Err full)
+
+abbrev roomy : Bool → Literal → Flaw → Result Literal Flaw
+roomy t atom full = cond t (Ok atom) (Err full)
+
+room_by : (t : Bool) (atom : Literal) (full : Flaw) → roomy t atom full ≡ and_then (room t full) (λ _. Ok atom)
 room_by true atom full = refl
 room_by false atom full = refl
 

@@ -7,8 +7,12 @@ use Rattle.cow_model.specs.declared.reading.Reading.{Reading}
 use Rattle.cow_model.specs.declared.reading.Standing.TheVariants.{Outside}
 use Rattle.cow_model.specs.declared.statement.Statement.{Statement}
 use Rattle.cow_model.specs.Lexis.{Text, lines_of, tokens_of}
-use Rattle.cow_model.specs.Parse.{reading, with_line, with_tokens, fault_at, closed, behind, script_from, script_of}
+use Rattle.cow_model.specs.Parse.{reading, with_line, with_tokens, closed, behind, script_from, script_of}
 use Rattle.cow_lexis.specs.Cuts.{AreEmpty, with_empty}
+use Rattle.cow_lexis.specs.Reads.{Fails}
+use Rattle.cow_lexis.specs.declared.stop.Stop.{Stop}
+use Rattle.cow_lexis.specs.declared.stop.Stop.TheVariants as stop
+use Rattle.cow_script.specs.Reads.{Stops, stop_at}
 
 -- what was read so far, and the lines to come, are the whole script
 pub record ReadSoFar (r : Reading) (line : ℕ) (rest : Text) (said : Result (List Statement) ParseFault) : Type 0 where
@@ -40,11 +44,12 @@ next r line rest n text after at said answer so_far cut place is =
 pub read_more : (r : Reading) (line : ℕ) (rest : Text) (n : ℕ) (text after : Text) (at : ℕ) (said : Result (List Statement) ParseFault) (more : Reading) → ReadSoFar r line rest said → lines_of rest ≡ with_empty n (text ∷ lines_of after) → at ≡ line + (n + 1) → with_line at text r ≡ Ok more → ReadSoFar more at after said
 read_more r line rest n text after at said more so_far cut place is = record { script = next r line rest n text after at said (Ok more) so_far cut place is }
 
--- the next line is faulty
-pub read_stop : (r : Reading) (line : ℕ) (rest : Text) (n : ℕ) (text after : Text) (at : ℕ) (said : Result (List Statement) ParseFault) (flaw : Flaw) → ReadSoFar r line rest said → lines_of rest ≡ with_empty n (text ∷ lines_of after) → at ≡ line + (n + 1) → with_line at text r ≡ Err flaw → said ≡ Err (fault_at at flaw)
-read_stop r line rest n text after at said flaw so_far cut place is = next r line rest n text after at said (Err flaw) so_far cut place is
+-- the next line is faulty, or memory ran out
+pub read_stop : (r : Reading) (line : ℕ) (rest : Text) (n : ℕ) (text after : Text) (at : ℕ) (said : Result (List Statement) ParseFault) (why : Stop) → ReadSoFar r line rest said → lines_of rest ≡ with_empty n (text ∷ lines_of after) → at ≡ line + (n + 1) → Fails why (with_line at text r) → Stops said (stop_at at why)
+read_stop r line rest n text after at said (stop.Flaw flaw) so_far cut place is = next r line rest n text after at said (Err flaw) so_far cut place is
+read_stop r line rest n text after at said stop.NoMemory so_far cut place is = tt
 
 -- there are no further lines but empty ones
-pub read_done : (r : Reading) (line : ℕ) (rest : Text) (said : Result (List Statement) ParseFault) → ReadSoFar r line rest said → AreEmpty (lines_of rest) → said ≡ closed r.statements r.standing
+pub read_done : (r : Reading) (line : ℕ) (rest : Text) (said : Result (List Statement) ParseFault) → ReadSoFar r line rest said → AreEmpty (lines_of rest) → closed r.statements r.standing ≡ said
 read_done r line rest said so_far none =
-    so_far.script ∙ (ap (script_from (line + 1) r) none.1 ∙ empty_lines none.0 (line + 1) r [])
+    sym (so_far.script ∙ (ap (script_from (line + 1) r) none.1 ∙ empty_lines none.0 (line + 1) r []))

@@ -1,4 +1,3 @@
-use Rattle.std.proofs.Common.{◌≡◌}
 use Rattle.std.specs.Prelude.{codes}
 use Rattle.std.specs.Io.{StartsWith}
 use Rattle.cow_print.proofs.Fronts.{front_of_front, front_of_more}

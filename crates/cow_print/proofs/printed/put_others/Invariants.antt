@@ -7,5 +7,5 @@ use Rattle.cow_print.proofs.printed.put_others.Given as goal
 -- the text so far, and then the items to come
 abbrev pub invariant-loop-item : goal.invariant-loop-item
 invariant-loop-item g l =
-    (l.text.items ++ flat_map behind_comma (map g.T.Shown.form (drop l.item-index l.items)) ≡ l.fn.text.items ++ flat_map behind_comma (map g.T.Shown.form l.items))
+    (l.text.items ++ flat_map behind_comma (map g.T.Printed.form (drop l.item-index l.items)) ≡ l.fn.text.items ++ flat_map behind_comma (map g.T.Printed.form l.items))
     × StartsWith l.text.items l.fn.text.items

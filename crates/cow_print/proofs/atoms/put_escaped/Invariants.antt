@@ -2,7 +2,7 @@ use Rattle.std.proofs.Common.{◌≡◌, ◌++◌, length}
 use Rattle.std.specs.Io.{StartsWith}
 use Rattle.std.specs.List.{flat_map}
 use Rattle.cow_model.specs.Printed.{escaped}
-use Rattle.cow_print.proofs.printed.put_escaped.Given as goal
+use Rattle.cow_print.proofs.atoms.put_escaped.Given as goal
 
 -- the text so far, and then the bytes to come
 abbrev pub invariant-loop-run : goal.invariant-loop-run
