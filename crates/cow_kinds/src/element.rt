@@ -8,7 +8,7 @@ ghost use Rattle.std.proofs.Common.{rules};
 use cow_cell::{Holder, Stock};
 use cow_item::{Atom, Item, Key};
 use cow_model::{Literal, NoMemory};
-use cow_script::put_atom;
+use cow_print::put_atom;
 use std::alloc::Global;
 
 /// What the collections of a script hold: a key that is made of a literal and that is printed. One copy

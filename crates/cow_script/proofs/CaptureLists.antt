@@ -7,9 +7,9 @@ use Rattle.cow_model.specs.declared.reading.Due.TheVariants.{Group}
 use Rattle.cow_model.specs.declared.statement.Capture.{Capture}
 use Rattle.cow_model.specs.Lexis.{Text}
 use Rattle.cow_model.specs.Readers.{and_then, capture_of, captures_end, with_capture, captures_from, all_captures}
-use Rattle.cow_script.specs.declared.stop.Stop.{Stop}
-use Rattle.cow_script.specs.declared.stop.Stop.TheVariants as stop
-use Rattle.cow_script.specs.Reads.{Fails}
+use Rattle.cow_lexis.specs.declared.stop.Stop.{Stop}
+use Rattle.cow_lexis.specs.declared.stop.Stop.TheVariants as stop
+use Rattle.cow_lexis.specs.Reads.{Fails}
 
 -- captures, and then those of tokens to come
 abbrev pub and_captures : List Capture → Result (List Capture) Flaw → Result (List Capture) Flaw

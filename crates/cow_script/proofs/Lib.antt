@@ -1,9 +1,3 @@
 pub mod AtomLists
 pub mod CaptureLists
-pub mod Contents
-pub mod CutTexts
-pub mod Digits
-pub mod Escapes
-pub mod Fronts
 pub mod LinesRead
-pub mod TokenTexts

@@ -1,4 +1,4 @@
--- What a function that reads answers, for what the definitions say.
+-- What a script is read as.
 use Rattle.std.specs.Prelude.{◌≡◌, ℕ, List, [], ◌∷◌, Result, Ok, Err, ⊤}
 use Rattle.std.specs.Borrow.{Bor}
 use Rattle.cow_model.specs.declared.fault.Flaw.{Flaw}
@@ -7,26 +7,11 @@ use Rattle.cow_model.specs.declared.fault.ParseFault.{ParseFault}
 use Rattle.cow_model.specs.declared.statement.Statement.{Statement}
 use Rattle.cow_model.specs.Lexis.{Text}
 use Rattle.cow_model.specs.Parse.{fault_at}
+use Rattle.cow_lexis.specs.declared.stop.Stop.{Stop}
+use Rattle.cow_lexis.specs.declared.stop.Stop.TheVariants as stop
 use Rattle.cow_script.specs.declared.script.ParseStop.{ParseStop}
 use Rattle.cow_script.specs.declared.script.ParseStop.TheVariants as parse_stop
 use Rattle.cow_script.specs.declared.script.Script.{Script}
-use Rattle.cow_script.specs.declared.stop.Stop.{Stop}
-use Rattle.cow_script.specs.declared.stop.Stop.TheVariants as stop
-
--- nothing was read: there is this flaw, or memory ran out
-abbrev pub Fails : {A : Type 0} → Stop → Result A Flaw → Type 0
-Fails (stop.Flaw flaw) said = said ≡ Err flaw
-Fails stop.NoMemory said = ⊤
-
--- what is said was answered
-abbrev pub Gives : {A : Type 0} → Result A Flaw → Result A Stop → Type 0
-Gives said (Ok x) = said ≡ Ok x
-Gives said (Err why) = Fails why said
-
--- what is said was read, and these tokens are left
-abbrev pub Reads : {A : Type 0} → Result (A × List Text) Flaw → Result A Stop → List Text → Type 0
-Reads said (Ok x) left = said ≡ Ok (x, left)
-Reads said (Err why) left = Fails why said
 
 -- the bytes are no script: they have this fault, or memory ran out
 abbrev pub Stops : Result (List Statement) ParseFault → ParseStop → Type 0

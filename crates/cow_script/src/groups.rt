@@ -1,13 +1,18 @@
 // Statements of the words that share a form.
 ghost use Rattle.std.specs.Prelude.{◌≡◌};
 ghost use Rattle.cow_model.specs.Forms as spec;
+ghost use Rattle.cow_model.specs.declared.word.Form.TheVariants as form;
+ghost use Rattle.cow_lexis.specs.Reads.{Reads};
 
+use crate::shapes::{lone_name, name_atom, name_place, name_side, two_names};
+use cow_lexis::{Stop, Tokens};
 use cow_model::{
     AtomWord, Literal, Name, NameWord, OtherWord, PlaceWord, Side, SideWord, Statement,
 };
+use std::alloc::Global;
 
-/// `WORD N`
-pub fn on_name(line: u64, word: NameWord, name: Name) -> Statement
+// `WORD N`
+fn on_name(line: u64, word: NameWord, name: Name) -> Statement
     ensures { result ≡ spec.on_name line word name }
 {
     match word {
@@ -20,8 +25,8 @@ pub fn on_name(line: u64, word: NameWord, name: Name) -> Statement
     }
 }
 
-/// `WORD N A`
-pub fn on_atom(line: u64, word: AtomWord, name: Name, atom: Literal) -> Statement
+// `WORD N A`
+fn on_atom(line: u64, word: AtomWord, name: Name, atom: Literal) -> Statement
     ensures { result ≡ spec.on_atom line word name atom }
 {
     match word {
@@ -35,8 +40,8 @@ pub fn on_atom(line: u64, word: AtomWord, name: Name, atom: Literal) -> Statemen
     }
 }
 
-/// `WORD N I`
-pub fn on_place(line: u64, word: PlaceWord, name: Name, i: i64) -> Statement
+// `WORD N I`
+fn on_place(line: u64, word: PlaceWord, name: Name, i: i64) -> Statement
     ensures { result ≡ spec.on_place line word name i }
 {
     match word {
@@ -47,8 +52,8 @@ pub fn on_place(line: u64, word: PlaceWord, name: Name, i: i64) -> Statement
     }
 }
 
-/// `WORD N END`
-pub fn on_side(line: u64, word: SideWord, name: Name, side: Side) -> Statement
+// `WORD N END`
+fn on_side(line: u64, word: SideWord, name: Name, side: Side) -> Statement
     ensures { result ≡ spec.on_side line word name side }
 {
     match word {
@@ -57,8 +62,8 @@ pub fn on_side(line: u64, word: SideWord, name: Name, side: Side) -> Statement
     }
 }
 
-/// `WORD N M`
-pub fn on_other(line: u64, word: OtherWord, name: Name, other: Name) -> Statement
+// `WORD N M`
+fn on_other(line: u64, word: OtherWord, name: Name, other: Name) -> Statement
     ensures { result ≡ spec.on_other line word name other }
 {
     match word {
@@ -72,4 +77,74 @@ pub fn on_other(line: u64, word: OtherWord, name: Name, other: Name) -> Statemen
         OtherWord::Equal => Statement::Equal { line, name, other },
         OtherWord::Within => Statement::Within { line, name, other },
     }
+}
+
+/// `WORD N`
+#[tactic(auto, unfolding(cow_model::specs::Forms::statement_of))]
+pub fn read_on_name(
+    alloc: Global,
+    line: u64,
+    word: NameWord,
+    tokens: &mut Tokens<'_>,
+) -> Result<Statement, Stop>
+    ensures { Reads (spec.statement_of line (form.OnName word) tokens.old) result tokens.new }
+{
+    let name = lone_name(alloc, tokens)?;
+    Ok(on_name(line, word, name))
+}
+
+/// `WORD N A`
+#[tactic(auto, unfolding(cow_model::specs::Forms::statement_of))]
+pub fn read_on_atom(
+    alloc: Global,
+    line: u64,
+    word: AtomWord,
+    tokens: &mut Tokens<'_>,
+) -> Result<Statement, Stop>
+    ensures { Reads (spec.statement_of line (form.OnAtom word) tokens.old) result tokens.new }
+{
+    let (name, atom) = name_atom(alloc, tokens)?;
+    Ok(on_atom(line, word, name, atom))
+}
+
+/// `WORD N I`
+#[tactic(auto, unfolding(cow_model::specs::Forms::statement_of))]
+pub fn read_on_place(
+    alloc: Global,
+    line: u64,
+    word: PlaceWord,
+    tokens: &mut Tokens<'_>,
+) -> Result<Statement, Stop>
+    ensures { Reads (spec.statement_of line (form.OnPlace word) tokens.old) result tokens.new }
+{
+    let (name, i) = name_place(alloc, tokens)?;
+    Ok(on_place(line, word, name, i))
+}
+
+/// `WORD N END`
+#[tactic(auto, unfolding(cow_model::specs::Forms::statement_of))]
+pub fn read_on_side(
+    alloc: Global,
+    line: u64,
+    word: SideWord,
+    tokens: &mut Tokens<'_>,
+) -> Result<Statement, Stop>
+    ensures { Reads (spec.statement_of line (form.OnSide word) tokens.old) result tokens.new }
+{
+    let (name, side) = name_side(alloc, tokens)?;
+    Ok(on_side(line, word, name, side))
+}
+
+/// `WORD N M`
+#[tactic(auto, unfolding(cow_model::specs::Forms::statement_of))]
+pub fn read_on_other(
+    alloc: Global,
+    line: u64,
+    word: OtherWord,
+    tokens: &mut Tokens<'_>,
+) -> Result<Statement, Stop>
+    ensures { Reads (spec.statement_of line (form.OnOther word) tokens.old) result tokens.new }
+{
+    let (name, other) = two_names(alloc, tokens)?;
+    Ok(on_other(line, word, name, other))
 }

@@ -40,26 +40,18 @@
 //! - No clause says how many steps a call takes, or that it takes no more memory than is told here.
 #![tactic(auto)]
 
-mod atoms;
-mod cuts;
 mod groups;
-mod integers;
 mod line;
 mod lists;
-mod names;
-mod printed;
 mod readers;
 mod script;
 mod shapes;
 mod standing;
 mod statement;
-mod stop;
-mod tokens;
 mod value;
 mod words;
 
 pub use cow_model::ParseFault;
-pub use printed::{put_atom, put_list, put_pairs};
 pub use script::{ParseStop, Script, parse};
 
 #[cfg(test)]

@@ -1,21 +1,79 @@
 // One line: its tests, in their order.
 ghost use Rattle.std.specs.Prelude.{◌≡◌};
 ghost use Rattle.cow_model.specs.Parse as spec;
-ghost use Rattle.cow_script.specs.Reads.{Gives};
+ghost use Rattle.cow_model.specs.declared.word.Word.TheVariants as word;
+ghost use Rattle.cow_lexis.specs.Reads.{Gives};
 
-use crate::cuts::is_printable;
 use crate::lists::all_captures;
 use crate::readers::{due_token, no_more};
 use crate::standing::{counted, ended, forked, stands, stated, tasked};
 use crate::statement::statement;
-use crate::stop::Stop;
-use crate::tokens::Tokens;
 use crate::words::{is_word, word};
-use cow_model::{Flaw, Reading, Word};
+use cow_lexis::{Stop, Tokens, is_printable};
+use cow_model::{Flaw, Form, Reading, Word};
 use std::alloc::Global;
 
-// Adds what the tokens behind the first word say.
+// Adds a statement of this form.
 #[tactic(auto, unfolding(cow_model::specs::Parse::read_on))]
+fn read_statement(
+    alloc: Global,
+    line: u64,
+    form: Form,
+    count: u64,
+    reading: Reading,
+    tokens: &mut Tokens<'_>,
+) -> Result<Reading, Stop>
+    ensures { Gives (spec.read_on line (word.Statement form) count reading tokens.old) result }
+{
+    let statement = statement(alloc, line, form, tokens)?;
+    Ok(stated(count, statement, reading)?)
+}
+
+// Opens a fork.
+#[tactic(auto, unfolding(cow_model::specs::Parse::read_on))]
+fn read_fork(
+    alloc: Global,
+    line: u64,
+    count: u64,
+    reading: Reading,
+    tokens: &mut Tokens<'_>,
+) -> Result<Reading, Stop>
+    ensures { Gives (spec.read_on line word.Fork count reading tokens.old) result }
+{
+    no_more(tokens)?;
+    Ok(forked(alloc, line, reading))
+}
+
+// Opens a task with what it captures.
+#[tactic(auto, unfolding(cow_model::specs::Parse::read_on))]
+fn read_task(
+    alloc: Global,
+    line: u64,
+    count: u64,
+    reading: Reading,
+    tokens: &mut Tokens<'_>,
+) -> Result<Reading, Stop>
+    ensures { Gives (spec.read_on line word.Task count reading tokens.old) result }
+{
+    let captures = all_captures(alloc, tokens)?;
+    Ok(tasked(alloc, line, captures, reading))
+}
+
+// Closes the task or the fork that is open.
+#[tactic(auto, unfolding(cow_model::specs::Parse::read_on))]
+fn read_end(
+    line: u64,
+    count: u64,
+    reading: Reading,
+    tokens: &mut Tokens<'_>,
+) -> Result<Reading, Stop>
+    ensures { Gives (spec.read_on line word.End count reading tokens.old) result }
+{
+    no_more(tokens)?;
+    Ok(ended(reading)?)
+}
+
+// Adds what the tokens behind the first word say.
 fn read_on(
     alloc: Global,
     line: u64,
@@ -27,22 +85,10 @@ fn read_on(
     ensures { Gives (spec.read_on line word count reading tokens.old) result }
 {
     match word {
-        Word::Statement(form) => {
-            let statement = statement(alloc, line, form, tokens)?;
-            Ok(stated(count, statement, reading)?)
-        }
-        Word::Fork => {
-            no_more(tokens)?;
-            Ok(forked(alloc, line, reading))
-        }
-        Word::Task => {
-            let captures = all_captures(alloc, tokens)?;
-            Ok(tasked(alloc, line, captures, reading))
-        }
-        Word::End => {
-            no_more(tokens)?;
-            Ok(ended(reading)?)
-        }
+        Word::Statement(form) => read_statement(alloc, line, form, count, reading, tokens),
+        Word::Fork => read_fork(alloc, line, count, reading, tokens),
+        Word::Task => read_task(alloc, line, count, reading, tokens),
+        Word::End => read_end(line, count, reading, tokens),
     }
 }
 

@@ -1,13 +1,12 @@
 // Lists up to the end of a line.
-ghost use Rattle.std.specs.Prelude.{◌≡◌};
+ghost use Rattle.std.specs.Prelude.{◌≡◌, ◌+◌, nat_lt, Ok, Err, if◌then◌else◌};
 ghost use Rattle.cow_model.specs.Readers as spec;
-ghost use Rattle.cow_script.specs.Reads.{Gives, Reads};
+ghost use Rattle.cow_model.specs.declared.fault.Flaw.TheVariants.{Limit};
+ghost use Rattle.cow_lexis.specs.Reads.{Gives, Reads};
 
-use crate::atoms::atom;
 use crate::readers::name;
-use crate::stop::Stop;
-use crate::tokens::Tokens;
 use crate::words::group;
+use cow_lexis::{Stop, Tokens};
 use cow_model::{Capture, Due, Flaw, Literal};
 use sqlite_items::Items;
 use std::alloc::Global;
@@ -15,18 +14,17 @@ use std::alloc::Global;
 /// The most atoms of a line.
 const MAX_ATOMS: usize = 65_536;
 
-// An atom behind `n` others.
-fn numbered_atom(alloc: Global, n: usize, token: &[u8]) -> Result<Literal, Stop>
-    ensures { Gives (spec.numbered_atom n token.now) result }
+// One more atom may stand behind `n` others.
+fn one_more_atom(n: usize) -> Result<(), Flaw>
+    ensures { result ≡ if nat_lt n spec.max_atoms then Ok tt else Err (Limit (spec.max_atoms + 1) spec.max_atoms) }
 {
-    let atom = atom(alloc, token)?;
     if n >= MAX_ATOMS {
-        return Err(Stop::Flaw(Flaw::Limit {
+        return Err(Flaw::Limit {
             quantity: MAX_ATOMS as u64 + 1,
             bound: MAX_ATOMS as u64,
-        }));
+        });
     }
-    Ok(atom)
+    Ok(())
 }
 
 /// Atoms are due up to the end of the line.
@@ -34,8 +32,8 @@ pub fn all_atoms(alloc: Global, tokens: &mut Tokens<'_>) -> Result<Items<Literal
     ensures { Reads (spec.all_atoms tokens.old) result tokens.new }
 {
     let mut atoms = Vec::new(alloc);
-    while let Some(token) = tokens.next() {
-        let atom = numbered_atom(alloc, atoms.len(), token)?;
+    while let Some(atom) = tokens.next_atom(alloc)? {
+        one_more_atom(atoms.len())?;
         atoms.push(atom)?;
     }
     Ok(Items::from_vec(atoms))

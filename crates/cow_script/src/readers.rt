@@ -2,14 +2,11 @@
 ghost use Rattle.std.specs.Prelude.{◌≡◌, IfOk};
 ghost use Rattle.cow_model.specs.Words.{side_of, verb_of, preference_of};
 ghost use Rattle.cow_model.specs.Readers as spec;
-ghost use Rattle.cow_script.specs.Reads.{Gives, Reads, Takes};
+ghost use Rattle.cow_lexis.specs.Reads.{Gives, Reads};
+ghost use Rattle.cow_script.specs.Reads.{Takes};
 
-use crate::atoms::atom;
-use crate::integers::integer;
-use crate::names::is_name;
-use crate::stop::Stop;
-use crate::tokens::Tokens;
 use crate::words::{is_word, preference, side, verb};
+use cow_lexis::{Stop, Tokens, integer, is_name};
 use cow_model::{Flaw, Literal, Name, Side, Verb};
 use std::alloc::Global;
 
@@ -44,8 +41,10 @@ pub fn due_name(alloc: Global, tokens: &mut Tokens<'_>) -> Result<Name, Stop>
 pub fn due_atom(alloc: Global, tokens: &mut Tokens<'_>) -> Result<Literal, Stop>
     ensures { Reads (spec.due_atom tokens.old) result tokens.new }
 {
-    let token = due(tokens)?;
-    atom(alloc, token)
+    match tokens.next_atom(alloc)? {
+        Some(atom) => Ok(atom),
+        None => Err(Stop::Flaw(Flaw::BadWord)),
+    }
 }
 
 /// An integer is due.

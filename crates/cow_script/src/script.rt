@@ -3,9 +3,8 @@ ghost use Rattle.cow_model.specs.Parse as spec;
 ghost use Rattle.cow_model.specs.Parse.{script_of};
 ghost use Rattle.cow_script.specs.Reads.{Parses, stop_at};
 
-use crate::cuts::next_line;
 use crate::line::with_line;
-use crate::stop::Stop;
+use cow_lexis::{Stop, next_line};
 use cow_model::{Flaw, ParseFault, Reading, Standing, Statement};
 use sqlite_items::Items;
 use std::alloc::Global;
@@ -80,8 +79,8 @@ pub fn parse(alloc: Global, bytes: &[u8]) -> Result<Script, ParseStop>
     };
     let mut rest = bytes;
     let mut line = 0u64;
-    while let Some((text, after)) = next_line(rest) {
-        line += 1;
+    while let Some((empty, text, after)) = next_line(rest) {
+        line += empty as u64 + 1;
         match with_line(alloc, line, text, reading) {
             Ok(more) => reading = more,
             Err(stop) => return Err(stop_at(line, stop)),

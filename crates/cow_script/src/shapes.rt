@@ -1,10 +1,9 @@
 // What stands behind the first words that share a form.
 ghost use Rattle.cow_model.specs.Forms as spec;
-ghost use Rattle.cow_script.specs.Reads.{Reads};
+ghost use Rattle.cow_lexis.specs.Reads.{Reads};
 
 use crate::readers::{due_atom, due_integer, due_name, due_side, no_more};
-use crate::stop::Stop;
-use crate::tokens::Tokens;
+use cow_lexis::{Stop, Tokens};
 use cow_model::{Literal, Name, Side};
 use std::alloc::Global;
 

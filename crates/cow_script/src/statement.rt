@@ -1,20 +1,16 @@
 // Statements of one line.
 ghost use Rattle.std.specs.Prelude.{◌≡◌, nat_le, length};
 ghost use Rattle.cow_model.specs.Forms as spec;
-ghost use Rattle.cow_model.specs.declared.statement.Statement.TheVariants as a_statement;
-ghost use Rattle.cow_script.specs.Reads.{Reads};
+ghost use Rattle.cow_model.specs.declared.word.Form.TheVariants as form;
+ghost use Rattle.cow_lexis.specs.Reads.{Reads};
 
-use crate::groups::{on_atom, on_name, on_other, on_place, on_side};
+use crate::groups::{read_on_atom, read_on_name, read_on_other, read_on_place, read_on_side};
 use crate::lists::all_atoms;
 use crate::readers::{due_integer, due_name, due_preference, due_token, due_verb, no_more};
-use crate::shapes::{
-    lone_name, name_atom, name_atoms, name_place, name_place_atom, name_places, name_side,
-    name_side_atom, two_names,
-};
-use crate::stop::Stop;
-use crate::tokens::Tokens;
+use crate::shapes::{name_atom, name_atoms, name_place_atom, name_places, name_side_atom};
 use crate::value::assignment;
-use cow_model::{Form, Literal, Name, Side, Statement};
+use cow_lexis::{Stop, Tokens};
+use cow_model::{Form, Statement};
 use std::alloc::Global;
 
 // `splice N I J A*`
@@ -117,42 +113,54 @@ fn insert(alloc: Global, line: u64, tokens: &mut Tokens<'_>) -> Result<Statement
 }
 
 // `set N I A`
-fn set(line: u64, parts: (Name, i64, Literal)) -> Statement
-    ensures { result ≡ a_statement.Set line parts.0 parts.1 parts.2 }
+#[tactic(auto, unfolding(cow_model::specs::Forms::statement_of))]
+fn set(alloc: Global, line: u64, tokens: &mut Tokens<'_>) -> Result<Statement, Stop>
+    ensures { Reads (spec.statement_of line form.Set tokens.old) result tokens.new }
 {
-    let (name, i, atom) = parts;
-    Statement::Set {
+    let (name, i, atom) = name_place_atom(alloc, tokens)?;
+    Ok(Statement::Set {
         line,
         name,
         i,
         atom,
-    }
+    })
 }
 
 // `replace N S A`
-fn replace(line: u64, parts: (Name, Side, Literal)) -> Statement
-    ensures { result ≡ a_statement.Replace line parts.0 parts.1 parts.2 }
+#[tactic(auto, unfolding(cow_model::specs::Forms::statement_of))]
+fn replace(alloc: Global, line: u64, tokens: &mut Tokens<'_>) -> Result<Statement, Stop>
+    ensures { Reads (spec.statement_of line form.Replace tokens.old) result tokens.new }
 {
-    let (name, side, atom) = parts;
-    Statement::Replace {
+    let (name, side, atom) = name_side_atom(alloc, tokens)?;
+    Ok(Statement::Replace {
         line,
         name,
         side,
         atom,
-    }
+    })
+}
+
+// `swap N I J`
+#[tactic(auto, unfolding(cow_model::specs::Forms::statement_of))]
+fn swap(alloc: Global, line: u64, tokens: &mut Tokens<'_>) -> Result<Statement, Stop>
+    ensures { Reads (spec.statement_of line form.Swap tokens.old) result tokens.new }
+{
+    let (name, i, j) = name_places(alloc, tokens)?;
+    Ok(Statement::Swap { line, name, i, j })
 }
 
 // `put N K V`
-fn put(line: u64, parts: (Name, Literal, Literal)) -> Statement
-    ensures { result ≡ a_statement.Put line parts.0 parts.1 parts.2 }
+#[tactic(auto, unfolding(cow_model::specs::Forms::statement_of))]
+fn put(alloc: Global, line: u64, tokens: &mut Tokens<'_>) -> Result<Statement, Stop>
+    ensures { Reads (spec.statement_of line form.Put tokens.old) result tokens.new }
 {
-    let (name, key, value) = parts;
-    Statement::Put {
+    let (name, key, value) = name_atoms(alloc, tokens)?;
+    Ok(Statement::Put {
         line,
         name,
         key,
         value,
-    }
+    })
 }
 
 /// The statement that the tokens behind a first word are.
@@ -167,32 +175,17 @@ pub fn statement(
 {
     match form {
         Form::Let => assignment(alloc, line, tokens),
-        Form::OnName(word) => Ok(on_name(line, word, lone_name(alloc, tokens)?)),
-        Form::OnAtom(word) => {
-            let (name, atom) = name_atom(alloc, tokens)?;
-            Ok(on_atom(line, word, name, atom))
-        }
-        Form::OnPlace(word) => {
-            let (name, i) = name_place(alloc, tokens)?;
-            Ok(on_place(line, word, name, i))
-        }
-        Form::OnSide(word) => {
-            let (name, side) = name_side(alloc, tokens)?;
-            Ok(on_side(line, word, name, side))
-        }
-        Form::OnOther(word) => {
-            let (name, other) = two_names(alloc, tokens)?;
-            Ok(on_other(line, word, name, other))
-        }
+        Form::OnName(word) => read_on_name(alloc, line, word, tokens),
+        Form::OnAtom(word) => read_on_atom(alloc, line, word, tokens),
+        Form::OnPlace(word) => read_on_place(alloc, line, word, tokens),
+        Form::OnSide(word) => read_on_side(alloc, line, word, tokens),
+        Form::OnOther(word) => read_on_other(alloc, line, word, tokens),
         Form::Insert => insert(alloc, line, tokens),
-        Form::Set => Ok(set(line, name_place_atom(alloc, tokens)?)),
-        Form::Replace => Ok(replace(line, name_side_atom(alloc, tokens)?)),
-        Form::Swap => {
-            let (name, i, j) = name_places(alloc, tokens)?;
-            Ok(Statement::Swap { line, name, i, j })
-        }
+        Form::Set => set(alloc, line, tokens),
+        Form::Replace => replace(alloc, line, tokens),
+        Form::Swap => swap(alloc, line, tokens),
         Form::Splice => splice(alloc, line, tokens),
-        Form::Put => Ok(put(line, name_atoms(alloc, tokens)?)),
+        Form::Put => put(alloc, line, tokens),
         Form::Merge => merge(alloc, line, tokens),
         Form::Lazy => lazy(alloc, line, tokens),
         Form::Give => give(alloc, line, tokens),

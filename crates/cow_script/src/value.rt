@@ -1,14 +1,13 @@
 // `let`.
 ghost use Rattle.std.specs.Prelude.{◌≡◌};
 ghost use Rattle.cow_model.specs.Forms as spec;
-ghost use Rattle.cow_script.specs.Reads.{Reads};
+ghost use Rattle.cow_lexis.specs.Reads.{Reads};
 
 use crate::lists::all_atoms;
 use crate::readers::{due_name, due_token, name, no_more};
 use crate::shapes::name_places;
-use crate::stop::Stop;
-use crate::tokens::Tokens;
 use crate::words::{is_word, kind};
+use cow_lexis::{Stop, Tokens};
 use cow_model::{Flaw, Kind, Literal, Name, Statement};
 use sqlite_items::Items;
 use std::alloc::Global;

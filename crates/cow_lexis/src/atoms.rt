@@ -1,0 +1,69 @@
+// The atom at the front of a line.
+ghost use Rattle.std.specs.Prelude.{◌≡◌, ◌<◌, ◌∷◌, None, Some, drop, MatchOption};
+ghost use Rattle.cow_model.specs.Integer.{integer_of};
+ghost use Rattle.cow_model.specs.declared.reading.Quoting.TheVariants.{Plain};
+ghost use Rattle.cow_lexis.specs.Cuts.{behind_token, cut_len, first_token};
+ghost use Rattle.cow_lexis.specs.Reads.{ReadsFront};
+
+use crate::integers::front_integer;
+use crate::places::behind_byte;
+use crate::stop::Stop;
+use crate::texts::read_content;
+use cow_model::{Bytes, Flaw, Literal};
+use std::alloc::Global;
+
+/// The most bytes of a text.
+const MAX_TEXT: usize = 255;
+
+// What stands behind a token that ends here, or `None` where it goes on.
+fn behind(rest: &[u8]) -> Option<&[u8]>
+    ensures { MatchOption result (0 < cut_len Plain rest.now) (λ after. (cut_len Plain rest.now ≡ 0) × (after.now ≡ drop 1 rest.now)) }
+{
+    match rest {
+        [] => Some(rest),
+        [b' ', after @ ..] => Some(after),
+        _ => None,
+    }
+}
+
+// The text at the front of a line, whose opening quote is read.
+fn front_text(alloc: Global, text: &[u8]) -> Result<(Literal, &[u8]), Stop>
+    ensures { ReadsFront (34 ∷ text.now) result }
+{
+    let mut content = Vec::new(alloc);
+    let Some(rest) = read_content(text, &mut content)? else {
+        return Err(Stop::Flaw(Flaw::BadAtom));
+    };
+    let Some(after) = behind(rest) else {
+        return Err(Stop::Flaw(Flaw::BadAtom));
+    };
+    let quantity = content.len();
+    if quantity > MAX_TEXT {
+        return Err(Stop::Flaw(Flaw::Limit {
+            quantity: quantity as u64,
+            bound: MAX_TEXT as u64,
+        }));
+    }
+    Ok((Literal::Text(Bytes::from_vec(content)), after))
+}
+
+// The integer that the first token of a line is, and what stands behind that token.
+fn front_int(line: &[u8]) -> Option<(i64, &[u8])>
+    ensures { MatchOption result (integer_of (first_token line.now) ≡ None) (λ front. (integer_of (first_token line.now) ≡ Some front.0) × (front.1.now ≡ behind_token line.now)) }
+{
+    let (x, len) = front_integer(line)?;
+    Some((x, behind(&line[len..])?))
+}
+
+/// The atom that the first token of a line is, and what stands behind that token. Each byte is read once.
+pub(crate) fn front_atom(alloc: Global, line: &[u8]) -> Result<(Literal, &[u8]), Stop>
+    ensures { ReadsFront line.now result }
+{
+    if let Some(text) = behind_byte(b'"', line) {
+        return front_text(alloc, text);
+    }
+    match front_int(line) {
+        Some((x, after)) => Ok((Literal::Int(x), after)),
+        None => Err(Stop::Flaw(Flaw::BadAtom)),
+    }
+}

@@ -1,0 +1,48 @@
+// The content of a text, read from the front of a line.
+ghost use Rattle.std.specs.Prelude.{◌≡◌, ◌<◌, [], ◌∷◌, length, true, false, None, Some, IfOk, IfSome, MatchOption};
+ghost use Rattle.cow_model.specs.Atom.{is_escapable};
+ghost use Rattle.cow_lexis.specs.Cuts.{and_front, front_of};
+
+use crate::places::next_escape;
+use cow_model::NoMemory;
+
+fn is_escapable(byte: u8) -> bool
+    ensures { result ≡ is_escapable byte }
+{
+    byte == b'"' || byte == b'\\'
+}
+
+// The byte right behind a `\`, where that may stand before it, and what stands behind it.
+fn behind_backslash(text: &[u8]) -> Option<(u8, &[u8])>
+    ensures front { MatchOption result (front_of true text.now ≡ None) (λ cut. front_of true text.now ≡ and_front (cut.0 ∷ []) (front_of false cut.1.now)) }
+    ensures shorter { IfSome result (λ cut. length cut.1.now < length text.now) }
+{
+    match text {
+        [byte, more @ ..] if is_escapable(*byte) => Some((*byte, more)),
+        _ => None,
+    }
+}
+
+/// Appends the content of the text whose opening quote is read, and answers what stands behind its closing
+/// quote, or `None` where there is no text. Each run between two escapes is appended in one piece.
+pub(crate) fn read_content<'a>(
+    text: &'a [u8],
+    content: &mut Vec<u8>,
+) -> Result<Option<&'a [u8]>, NoMemory>
+    requires { content.old.items ≡ [] }
+    ensures { IfOk result (λ found. MatchOption found (front_of false text.now ≡ None) (λ after. front_of false text.now ≡ Some (content.new.items, after.now))) }
+{
+    let mut rest = text;
+    while let Some((run, byte, after)) = next_escape(rest) {
+        content.extend_from_slice(run)?;
+        if byte == b'"' {
+            return Ok(Some(after));
+        }
+        let Some((escaped, more)) = behind_backslash(after) else {
+            return Ok(None);
+        };
+        content.push(escaped)?;
+        rest = more;
+    }
+    Ok(None)
+}

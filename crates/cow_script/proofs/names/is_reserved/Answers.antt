@@ -1,6 +1,0 @@
-use Rattle.cow_model.specs.Name.{is_reserved}
-use Rattle.cow_script.proofs.names.is_reserved.Goals as goal
-
-pub returns : goal.returns
-unfolding is_reserved
-returns c = c.is_among.ensures

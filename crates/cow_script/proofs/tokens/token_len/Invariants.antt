@@ -1,7 +1,0 @@
-use Rattle.std.proofs.Common.{◌≡◌, ◌+◌, drop}
-use Rattle.cow_model.specs.declared.reading.Quoting.TheVariants.{Start}
-use Rattle.cow_script.specs.Cuts.{cut_len}
-use Rattle.cow_script.proofs.tokens.token_len.Given as goal
-
-abbrev pub invariant-loop-i : goal.invariant-loop-i
-invariant-loop-i l = l.i + cut_len l.at (drop l.i l.line) ≡ cut_len Start l.line
