@@ -1,0 +1,56 @@
+-- Lists of passes, and what a draw tells the loop of a worker.
+use Rattle.std.proofs.Common.{◌≡◌, ℕ, zero, suc, ◌+◌, ◌<◌, ◌≤◌, Bool, true, false, true≢false, List, [], ◌∷◌, ◌++◌, length, All, get_or, sum_by, Option, Some, None, MatchOption, refl, sym, ap, subst, ◌∙◌, arith}
+use Rattle.std.specs.Option.{is_some, option_to_list}
+use Rattle.std.proofs.lemmas.List.Sums.{sum_by_push}
+use mathlib.Core.Option.{some, some-ne-none}
+use Rattle.cow_crew.specs.Order.{InOrder}
+use Rattle.cow_crew.proofs.Order.{rest_in_order}
+use Rattle.cow_crew.specs.Rule.{last, last_of, next_after}
+use Rattle.cow_crew.proofs.Counts.{last-append}
+
+pub found_below : (o : Option ℕ) (r n : ℕ) → is_some o ≡ true → MatchOption o (n ≤ r) (λ x. (x ≡ r) × (r < n)) → r < n
+found_below None r n e h = absurd (true≢false (sym e))
+found_below (Some x) r n e h = h.1
+
+pub found_past : (o : Option ℕ) (r n : ℕ) → is_some o ≡ false → MatchOption o (n ≤ r) (λ x. (x ≡ r) × (r < n)) → n ≤ r
+found_past None r n e h = h
+found_past (Some x) r n e h = absurd (true≢false e)
+
+
+next_last : (z : ℕ) (xs : List ℕ) (r : ℕ) → last_of z (xs ++ r ∷ []) ≡ r
+next_last z [] r = refl
+next_last z (x ∷ xs) r = next_last x xs r
+
+pub next_snoc : (xs : List ℕ) (r : ℕ) → next_after (xs ++ r ∷ []) ≡ r + 1
+next_snoc [] r = refl
+next_snoc (x ∷ xs) r = ap (λ z. z + 1) (next_last x xs r)
+
+module _ {X : Type 0} (P : X → Type 0) where
+  pub all_cons : (x : X) (xs : List X) → P x → All P xs → All P (x ∷ xs)
+  all_cons x xs p h zero d lt = p
+  all_cons x xs p h (suc k) d lt = h k d (omega (arith, lt))
+
+  pub split_all : (xs : List X) (y : X) → All P (xs ++ y ∷ []) → All P xs × P y
+  split_all [] y h = ((λ k d lt. absurd (omega (arith, lt))), h zero y (omega arith))
+  split_all (x ∷ xs) y h =
+      let r = split_all xs y (λ k d lt. h (suc k) d (omega (arith, lt))) in
+      (all_cons x xs (h zero x (omega arith)) r.0, r.1)
+
+  pub pop_all : (old new : List X) (o : Option X) (y : X) → old ≡ new ++ option_to_list o → o ≡ Some y → All P old → All P new × P y
+  pop_all old new o y e is h =
+      let A : List X → Type 0 = λ l. All P l in
+      split_all new y (subst A (e ∙ ap (λ (z : Option X). new ++ option_to_list z) is) h)
+
+pub pop_sum : {X : Type 0} (f : X → ℕ) (old new : List X) (o : Option X) (y : X) → old ≡ new ++ option_to_list o → o ≡ Some y → sum_by f old ≡ sum_by f new + f y
+pop_sum {X} f old new o y e is = ap (sum_by f) (e ∙ ap (λ (z : Option X). new ++ option_to_list z) is) ∙ sum_by_push f new y
+
+pub last_stays : (xs ys : List ℕ) (i : ℕ) → last ys ≡ some i → last (xs ++ ys) ≡ some i
+last_stays xs [] i e = absurd (some-ne-none i (sym e))
+last_stays xs (y ∷ ys) i e = last-append xs y ys ∙ e
+
+-- what holds of each result of a job holds of all results
+pub all_in_order : {J X : Type 0} (R : J → X → Type 0) (P : X → Type 0) → ((j : J) (x : X) → R j x → P x) → (js : List J) (xs : List X) → InOrder R js xs → All P xs
+all_in_order R P each [] [] o = λ k d lt. absurd (omega (arith, lt))
+all_in_order R P each [] (x ∷ xs) o = let l = o.len in absurd (omega (arith, l))
+all_in_order R P each (j ∷ js) [] o = let l = o.len in absurd (omega (arith, l))
+all_in_order R P each (j ∷ js) (x ∷ xs) o = all_cons P x xs (each j x (o.each zero j x refl refl)) (all_in_order R P each js xs (rest_in_order j js x xs o))
