@@ -36,8 +36,8 @@ module _ {J X : Type 0} where
 
   pub one_out : (ys : List (Place J X)) (outs : List X) (y : Place J X) (x : X) → get_elem? ys (length outs) ≡ some y → y.held ≡ Done x → AreResultsSoFar ys outs → AreResultsSoFar ys (outs ++ x ∷ [])
   one_out ys outs y x at is old k y' x' at' out = elim (at_end outs x x' k out) [
-      inl h ↦ old k y' x' at' h
+    | inl h ↦ old k y' x' at' h
     | inr h ↦
         let same : y ≡ y' = some-injective y y' (sym at ∙ ap (get_elem? ys) (sym h.0) ∙ at') in
         ap (λ (z : Place J X). z.held) (sym same) ∙ is ∙ ap Done h.1
-    ]
+  ]

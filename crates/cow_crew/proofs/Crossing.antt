@@ -46,13 +46,13 @@ table_sync : (A B : RattleType) (g : Ghosts A.Denot B.Denot) → IsSend A → Is
     → IsSync (table.the_row (place.the_row A B) (view.the_row A) (snapshot.the_row (vec.the_row A global.the_row galloc.ghosts)) (draws.the_row A) global.the_row (law.ghosts A B g law.no_dict law.no_dict law.no_dict) galloc.ghosts)
 table_sync A B g a b =
     declared_sync (table.the_type (place.the_row A B) (view.the_row A) (snapshot.the_row (vec.the_row A global.the_row galloc.ghosts)) (draws.the_row A) global.the_row (law.ghosts A B g law.no_dict law.no_dict law.no_dict) galloc.ghosts)
-      (search (shared.the_sync, place_send) depth 4, (search sendable, (search sendable, (search (lease.the_sync, heap.the_send, frees) depth 4, (search (lease.the_sync, heap.the_send, frees) depth 4, (as_row_sync (row_field global.the_row) heap.the_sync, tt))))))
+    (search (shared.the_sync, place_send) depth 4, (search sendable, (search sendable, (search (lease.the_sync, heap.the_send, frees) depth 4, (search (lease.the_sync, heap.the_send, frees) depth 4, (as_row_sync (row_field global.the_row) heap.the_sync, tt))))))
 
 table_send : (A B : RattleType) (g : Ghosts A.Denot B.Denot) → IsSend A → IsSend B
     → IsSend (table.the_row (place.the_row A B) (view.the_row A) (snapshot.the_row (vec.the_row A global.the_row galloc.ghosts)) (draws.the_row A) global.the_row (law.ghosts A B g law.no_dict law.no_dict law.no_dict) galloc.ghosts)
 table_send A B g a b =
     declared_send (table.the_type (place.the_row A B) (view.the_row A) (snapshot.the_row (vec.the_row A global.the_row galloc.ghosts)) (draws.the_row A) global.the_row (law.ghosts A B g law.no_dict law.no_dict law.no_dict) galloc.ghosts)
-      (search (shared.the_send, place_send) depth 4, (search sendable, (search sendable, (search (lease.the_send, heap.the_send, frees) depth 4, (search (lease.the_send, heap.the_send, frees) depth 4, (as_row_send (row_field global.the_row) heap.the_send, tt))))))
+    (search (shared.the_send, place_send) depth 4, (search sendable, (search sendable, (search (lease.the_send, heap.the_send, frees) depth 4, (search (lease.the_send, heap.the_send, frees) depth 4, (as_row_send (row_field global.the_row) heap.the_send, tt))))))
 
 board_inside_send : (A B : RattleType) (g : Ghosts A.Denot B.Denot) → IsSend A → IsSend B → IsSend (board_inside.the_row A B g)
 board_inside_send A B g a b = declared_send (board_inside.the_type A B g) (table_send A B g a b, (heap.the_send, tt))

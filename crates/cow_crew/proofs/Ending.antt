@@ -39,8 +39,8 @@ module _ {J X : Type 0} (R : J → X → Type 0) (jobs : List J) (xs : List (Pla
   outs_in_order outs o = record {
     len = o.len ∙ long;
     each = λ i j x at out.
-      let d = each_done i j (from_slice jobs i j at) in
-      let held = o.each i d.0 x d.1 (from_slice outs i x out) in
-      let same : d.2.1.0 ≡ x = same_result d.0.held d.2.1.0 x d.2.1.1 held in
-      subst (R j) same d.2.1.2;
+        let d = each_done i j (from_slice jobs i j at) in
+        let held = o.each i d.0 x d.1 (from_slice outs i x out) in
+        let same : d.2.1.0 ≡ x = same_result d.0.held d.2.1.0 x d.2.1.1 held in
+        subst (R j) same d.2.1.2;
   }

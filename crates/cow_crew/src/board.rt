@@ -75,7 +75,11 @@ impl<J: Job> Board<J> {
         let count = self.table.slot_count() as u64;
         let found = self.table.shared.fetch_add::<Draw>(&mut pass.seat, 0, 1);
         pass.last = Some(found);
-        if found < count { Some(found as u32) } else { None }
+        if found < count {
+            Some(found as u32)
+        } else {
+            None
+        }
     }
 
     /// Runs the job of the last number, after `gate.pass` of that number, and keeps its result.

@@ -54,10 +54,14 @@ fn work_all<R: Threads + Sync, J: Job, G: Gate>(
     requires { All (IsIdle board.now) passes.items }
     ensures { IfOk result (λ v. InOrder (Works board.now) passes.items v.items) }
 {
-    let done = thread::map_vec(rt, passes, &|pass: Pass<J>| -> Pass<J>
-        requires { IsIdle board.now pass }
-        ensures { Works board.entry.now pass result }
-    { work(board, pass, gate) })?;
+    let done = thread::map_vec(
+        rt,
+        passes,
+        &|pass: Pass<J>| -> Pass<J>
+            requires { IsIdle board.now pass }
+            ensures { Works board.entry.now pass result }
+        { work(board, pass, gate) },
+    )?;
     Ok(done)
 }
 

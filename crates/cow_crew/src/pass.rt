@@ -26,4 +26,3 @@ impl<J: Job> Model for Pass<J> {
 
     ghost invariant = { λ p. Fits J.gives p.seat.me p.last };
 }
-

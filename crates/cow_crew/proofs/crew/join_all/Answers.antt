@@ -1,7 +1,6 @@
 use Rattle.std.proofs.Common.{rules, arith, ◌≡◌, ℕ, ◌+◌, ◌++◌, ◌∷◌, List, ap, sym, ◌∙◌, length, All, sum_by}
-use Rattle.cow_crew.specs.Rule.{last}
 use Rattle.cow_crew.specs.Passes.{Progress, IsOver}
-use Rattle.cow_crew.proofs.Passing.{pop_all, pop_sum, last_stays}
+use Rattle.cow_crew.proofs.Passing.{pop_all, pop_sum, joined_ended}
 use Rattle.cow_crew.proofs.crew.join_all.Goals as goal
 
 pub loop-pass-init : goal.loop-pass-init
@@ -28,10 +27,8 @@ loop-pass-preserved g c =
     let parts = ap (λ t. t.parts) now in
     let was = c.loop-pass.invariant.0 in
     let old = c.loop-pass.invariant.2 in
-    let long : length c.join.new.pass.jobs ≡ length c.loop-pass.whole.jobs = ap (λ t. length t.jobs) now in
-    let le = was.1.2 in
     (
-      ((ap (λ t. t.table) now ∙ was.0.0, ap (λ t. t.jobs) now ∙ was.0.1), (was.1.0, ap (λ t. last t.numbers) now ∙ last_stays c.in-Some-pop.pass.numbers c.loop-pass.whole.numbers was.1.0 was.1.1, omega (arith, le, long))),
+      ((ap (λ t. t.table) now ∙ was.0.0, ap (λ t. t.jobs) now ∙ was.0.1), joined_ended c.loop-pass.whole c.in-Some-pop.pass c.join.new.pass now was.1),
       both.0,
       omega (arith, sum, parts, old),
     )

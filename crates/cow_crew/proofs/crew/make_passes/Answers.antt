@@ -17,8 +17,7 @@ loop-made-preserved g c =
     let one = ap (λ t. t.parts) given in
     let fewer = ap (λ t. t.parts) kept in
     let grown = c.in_ok-push.ensures.len in
-    let i2 = inv.2 in let i3 = inv.3 in let i4 = inv.4 in let count = c.requires.count in let low = c.loop-made-test.true in
-    (
+    let i2 = inv.2 in let i3 = inv.3 in let i4 = inv.4 in let count = c.requires.count in let low = c.loop-made-test.true in (
       ((ap (λ t. t.table) kept ∙ inv.0.0.0, ap (λ t. t.jobs) kept ∙ inv.0.0.1), ap (λ t. t.numbers) kept ∙ inv.0.1),
       rw pushed (All-append (IsIdle c.args.board.now) c.loop-made.all.items (c.split-another.result ∷ []) inv.1 (all_cons (IsIdle c.args.board.now) c.split-another.result [] ((ap (λ t. t.table) given ∙ inv.0.0.0, ap (λ t. t.jobs) given ∙ inv.0.0.1), ap (λ t. t.numbers) given ∙ inv.0.1) (λ k d lt. absurd (omega (arith, lt))))),
       omega (arith, grown, i2),

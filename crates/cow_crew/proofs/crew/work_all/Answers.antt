@@ -24,9 +24,9 @@ returns g c =
     record {
       len = (first_of (search rules, grind (arith, common_steps)));
       each = λ i j x at out.
-        let h = (c.in_ok-done.ensures.each i x (slice_get_within js i j at)).1 in
-        let job : h.job ≡ j = sym (h.job_is j) ∙ get_or_from_slice_get js i j j at in
-        let S : Progress g.row.J.Denot → Type 0 = λ z. Works b h.job z in
-        let T : Progress g.row.J.Denot → Type 0 = λ z. Works b z x in
-        subst T job (subst S (get_or_from_slice_get xs i x x out) h.call.met);
+          let h = (c.in_ok-done.ensures.each i x (slice_get_within js i j at)).1 in
+          let job : h.job ≡ j = sym (h.job_is j) ∙ get_or_from_slice_get js i j j at in
+          let S : Progress g.row.J.Denot → Type 0 = λ z. Works b h.job z in
+          let T : Progress g.row.J.Denot → Type 0 = λ z. Works b z x in
+          subst T job (subst S (get_or_from_slice_get xs i x x out) h.call.met);
     }

@@ -11,8 +11,7 @@ loop-i-preserved g c =
     let others = c.take-held.ensures.others in
     let more : c.push.new.self.items ≡ c.loop-i.outs.items ++ c.in-Done.out ∷ [] = first_of (search rules, grind (arith, common_steps)) in
     let long : length c.loop-i.outs.items ≡ c.loop-i.i = first_of (search rules, grind (arith, common_steps)) in
-    let ys = slots_items c.args.closed.slots in
-    (
+    let ys = slots_items c.args.closed.slots in (
       others.0 ∙ inv.0,
       others.2 ∙ inv.1,
       (first_of (search rules, grind (arith, common_steps))),

@@ -13,8 +13,7 @@ pub join_seat-requires : goal.join_seat-requires
 join_seat-requires g c =
     let over = subst HasEnded (sym c.other.view_is) c.requires.over in
     let here = ap (λ t. t.jobs) c.other.view_is ∙ c.requires.other.1 ∙ sym (ap (λ d. d.jobs) c.self.view_is) in
-    let E : List g.row.J.Denot → Type 0 = λ js. EndsPast (length js) c.other.inside.seat.me.0.numbers in
-    (
+    let E : List g.row.J.Denot → Type 0 = λ js. EndsPast (length js) c.other.inside.seat.me.0.numbers in (
       search rules,
       search rules,
       ended_idle g.J.Job.gives c.other.inside.seat.me c.other.inside.last c.other.invariant over,

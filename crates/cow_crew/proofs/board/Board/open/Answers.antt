@@ -11,7 +11,7 @@ new-requires g c =
     let h = c.in_ok-places.ensures in
     let P : List g.row.J.Denot → Type 0 = λ js. IsKept g.J.Job.gives js (opening (0 ∷ []) c.in_ok-places.places.items (opened js)) in
     subst P (sym (ap (λ v. v.items) c.of-about.ensures))
-      (begins g.J.Job.gives c.args.jobs.items c.in_ok-places.places.items (first_of (search rules, grind (arith, common_steps))) (length_waits _ _ h) (waits_at _ _ h))
+    (begins g.J.Job.gives c.args.jobs.items c.in_ok-places.places.items (first_of (search rules, grind (arith, common_steps))) (length_waits _ _ h) (waits_at _ _ h))
 
 pub invariant_of-result : goal.invariant_of-result
 invariant_of-result g c =

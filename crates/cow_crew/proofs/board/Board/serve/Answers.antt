@@ -20,7 +20,7 @@ invariant_of-pass g c =
     let one = one_name c.pass.inside.seat.me c.in-Some.number job.1.0 c.take_job-job.result (carries.0, carries.1, carries.2.0) name.0 in
     let held = c.put_result.ensures.held c.take_job-job.result name.1 in
     fits_done g.J.Job.gives c.pass.inside.seat.me c.put_result.new.seat.me c.pass.inside.last c.in-Some.number c.take_job-job.result held.0 c.pass.invariant job.0 (job.1.1 ∙ ap some one) (c.put_result.ensures.same.2 ∙ c.take_job-job.ensures.same.2) held.1
-      (held.2, (c.run-out.result, held.3, c.run-out.ensures))
+    (held.2, (c.run-out.result, held.3, c.run-out.ensures))
 
 pub returns : goal.returns
 returns g c =
