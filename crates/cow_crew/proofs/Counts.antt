@@ -1,8 +1,8 @@
 -- Sums over views, and numbers in lists.
-use Rattle.std.proofs.Common.{◌≡◌, ℕ, zero, suc, ◌+◌, ◌-◌, ◌<◌, ◌≤◌, ◌≢◌, List, [], ◌∷◌, ◌++◌, length, set, sym, refl, ap, subst, ◌∙◌, arith}
-use mathlib.Core.Option.{some, none, some-injective, some-ne-none}
+use Rattle.std.proofs.Common.{◌≡◌, ℕ, zero, suc, ◌+◌, ◌<◌, ◌≤◌, ◌≢◌, List, [], ◌∷◌, ◌++◌, set, sym, refl, ap, subst, arith}
+use mathlib.Core.Option.{some, some-injective, some-ne-none}
 use lib.ListN.{get_elem?}
-use Rattle.cow_crew.specs.Rule.{total, same, below, past, times, ends, last, last_of, EndsPast}
+use Rattle.cow_crew.specs.Rule.{total, same, past, times, ends, last, last_of, EndsPast}
 
 module _ {V : Type 0} (f : V → ℕ) where
   pub total_set : (l : List V) (i : ℕ) (v w : V) → get_elem? l i ≡ some v → total f (set l i w) + f v ≡ total f l + f w
@@ -58,12 +58,8 @@ pub last_ends : (n : ℕ) (xs : List ℕ) → EndsPast n xs → 1 ≤ ends n xs
 last_ends n [] (i, e, h) = absurd (some-ne-none i (sym e))
 last_ends n (x ∷ xs) (i, e, h) = let P : ℕ → Type 0 = λ k. n ≤ k in last_of_ends n x xs (subst P (sym (some-injective (last_of x xs) i e)) h)
 
--- a list with a number has a last one
-pub some_last : (x : ℕ) (xs : List ℕ) → last (x ∷ xs) ≡ some (last_of x xs)
-some_last x xs = refl
-
 -- where f is at most g at each view and less at one, the sum is less
-pub total_le : {V : Type 0} (f g : V → ℕ) (l : List V) → ((i : ℕ) (v : V) → get_elem? l i ≡ some v → f v ≤ g v) → total f l ≤ total g l
+total_le : {V : Type 0} (f g : V → ℕ) (l : List V) → ((i : ℕ) (v : V) → get_elem? l i ≡ some v → f v ≤ g v) → total f l ≤ total g l
 total_le f g [] h = omega arith
 total_le f g (x ∷ xs) h = let a = h zero x refl in let b = total_le f g xs (λ i v e. h (suc i) v e) in omega (arith, a, b)
 

@@ -1,5 +1,4 @@
 -- A pass may go to another thread, and a board may be shared.
-use Rattle.std.proofs.Common.{rules}
 use denote.RattleType.{RattleType}
 use denote.Param.Send.{IsSend, IsSync, sendable, view_send, view_sync}
 use denote.Param.SendFields.{declared_send, declared_sync, as_row_send, as_row_sync}

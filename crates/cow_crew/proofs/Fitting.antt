@@ -1,5 +1,5 @@
 -- What a pass carries, before and after each step.
-use Rattle.std.proofs.Common.{◌≡◌, ℕ, zero, suc, ◌+◌, ◌-◌, ◌<◌, ◌≤◌, ◌≢◌, ◌⊎◌, inl, inr, Bool, true, false, true≢false, List, [], ◌∷◌, ◌++◌, length, Option, Some, None, refl, sym, ap, subst, ◌∙◌, arith}
+use Rattle.std.proofs.Common.{◌≡◌, ℕ, ◌<◌, ◌⊎◌, inl, inr, true, false, true≢false, List, [], ◌∷◌, length, Option, Some, None, refl, sym, ap, subst, ◌∙◌, arith}
 use mathlib.Core.Option.{some, none, some-injective, some-ne-none}
 use mathlib.Core.Option as maybe
 use native.Mathlib.Decide.{dec_lt}
@@ -7,11 +7,10 @@ use lib.ListN.{get_elem?}
 use Rattle.atomic_table.specs.Table.{Me, Step}
 use Rattle.cow_crew.specs.declared.place.Place.{Place}
 use Rattle.cow_crew.specs.declared.rule.View.{View}
-use Rattle.cow_crew.specs.Rule.{last, EndsPast, IsWaiting, IsDone, IsReady, viewed, both, drawn_by, HasDrawn}
+use Rattle.cow_crew.specs.Rule.{last, EndsPast, IsWaiting, IsDone, IsReady, viewed, both, HasDrawn}
 use Rattle.std.proofs.lemmas.Option.{same_Some}
 use Rattle.cow_crew.specs.Passes.{Fits, as_std, served_of, is_done}
-use Rattle.cow_crew.specs.Places.{CarriesJob, CarriesName}
-use Rattle.cow_crew.proofs.Carrying.{one_name}
+use Rattle.cow_crew.specs.Places.{CarriesJob}
 use Rattle.std.specs.Option.{option_or}
 use Rattle.cow_crew.proofs.Counts.{last-append}
 use Rattle.cow_crew.proofs.Steps.{some_at, some_within, last_both}

@@ -1,11 +1,10 @@
 -- What a draw tells its caller, and lists of passes.
-use Rattle.std.proofs.Common.{◌≡◌, ℕ, zero, suc, ◌+◌, ◌-◌, ◌<◌, ◌≤◌, Bool, true, false, true≢false, List, [], ◌∷◌, ◌++◌, length, All, get_or, sum_by, Option, Some, None, MatchOption, refl, sym, ap, subst, ◌∙◌, arith}
+use Rattle.std.proofs.Common.{◌≡◌, ℕ, ◌+◌, ◌-◌, ◌<◌, ◌≤◌, true, false, true≢false, List, [], ◌∷◌, ◌++◌, length, All, IfSome, sum_by, Option, Some, None, MatchOption, refl, sym, ap, subst, ◌∙◌, arith}
 use Rattle.std.specs.Option.{is_some, option_to_list}
+use Rattle.std.proofs.lemmas.List.Elements.{All-pop}
 use Rattle.std.proofs.lemmas.List.Sums.{sum_by_push}
 use mathlib.Core.Option.{some, some-ne-none}
-use Rattle.cow_crew.specs.Order.{InOrder}
 use Rattle.cow_crew.specs.Passes.{Progress, joined_by, HasJob, HasEnded, Draws}
-use Rattle.cow_crew.proofs.Order.{rest_in_order}
 use Rattle.cow_crew.specs.Rule.{last, last_of, next_after}
 use Rattle.cow_crew.proofs.Counts.{last-append}
 
@@ -51,22 +50,14 @@ module _ {J : Type 0} (p q : Progress J) (o : Option ℕ) (d : Draws p q o) wher
       let next : next_after q.numbers ≡ d.number + 1 = ap (λ (t : Progress J). next_after t.numbers) d.gains ∙ next_snoc p.numbers d.number in
       omega (arith, lt, later, next, long)
 
-module _ {X : Type 0} (P : X → Type 0) where
-  pub all_cons : (x : X) (xs : List X) → P x → All P xs → All P (x ∷ xs)
-  all_cons x xs p h zero d lt = p
-  all_cons x xs p h (suc k) d lt = h k d (omega (arith, lt))
+-- what holds of all elements holds of the last one, which was taken out, and of the others
+pub pop_all : {X : Type 0} (P : X → Type 0) (old new : List X) (o : Option X) (y : X) → old ≡ new ++ option_to_list o → o ≡ Some y → All P old → All P new × P y
+pop_all {X} P old new o y e is h =
+    let both = All-pop P old new o e h in
+    let Q : Option X → Type 0 = λ z. IfSome z P in
+    (both.0, subst Q is both.1)
 
-  pub split_all : (xs : List X) (y : X) → All P (xs ++ y ∷ []) → All P xs × P y
-  split_all [] y h = ((λ k d lt. absurd (omega (arith, lt))), h zero y (omega arith))
-  split_all (x ∷ xs) y h =
-      let r = split_all xs y (λ k d lt. h (suc k) d (omega (arith, lt))) in
-      (all_cons x xs (h zero x (omega arith)) r.0, r.1)
-
-  pub pop_all : (old new : List X) (o : Option X) (y : X) → old ≡ new ++ option_to_list o → o ≡ Some y → All P old → All P new × P y
-  pop_all old new o y e is h =
-      let A : List X → Type 0 = λ l. All P l in
-      split_all new y (subst A (e ∙ ap (λ (z : Option X). new ++ option_to_list z) is) h)
-
+-- a sum over all elements is that over the others and the last one, which was taken out
 pub pop_sum : {X : Type 0} (f : X → ℕ) (old new : List X) (o : Option X) (y : X) → old ≡ new ++ option_to_list o → o ≡ Some y → sum_by f old ≡ sum_by f new + f y
 pop_sum {X} f old new o y e is = ap (sum_by f) (e ∙ ap (λ (z : Option X). new ++ option_to_list z) is) ∙ sum_by_push f new y
 
@@ -80,10 +71,3 @@ joined_ended {J} p q r e over =
     let long : length r.jobs ≡ length p.jobs = ap (λ (t : Progress J). length t.jobs) e in
     let le = over.2 in
     (over.0, ap (λ (t : Progress J). last t.numbers) e ∙ last_stays q.numbers p.numbers over.0 over.1, omega (arith, le, long))
-
--- what holds of each result of a job holds of all results
-pub all_in_order : {J X : Type 0} (R : J → X → Type 0) (P : X → Type 0) → ((j : J) (x : X) → R j x → P x) → (js : List J) (xs : List X) → InOrder R js xs → All P xs
-all_in_order R P each [] [] o = λ k d lt. absurd (omega (arith, lt))
-all_in_order R P each [] (x ∷ xs) o = let l = o.len in absurd (omega (arith, l))
-all_in_order R P each (j ∷ js) [] o = let l = o.len in absurd (omega (arith, l))
-all_in_order R P each (j ∷ js) (x ∷ xs) o = all_cons P x xs (each j x (o.each zero j x refl refl)) (all_in_order R P each js xs (rest_in_order j js x xs o))

@@ -1,6 +1,6 @@
 -- Slots at the start.
 use Rattle.std.proofs.Common.{◌≡◌, ℕ, zero, suc, List, [], ◌∷◌, ◌++◌, length, refl, sym, ap, subst}
-use mathlib.Core.Option.{some, none, some-injective, some-ne-none}
+use mathlib.Core.Option.{some, some-injective, some-ne-none}
 use lib.ListN.{get_elem?}
 use Rattle.cow_crew.specs.declared.place.Place.{Place}
 use Rattle.cow_crew.specs.Rule.{IsWaiting}

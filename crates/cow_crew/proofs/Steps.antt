@@ -1,14 +1,14 @@
 -- Each step keeps the rule.
 use Rattle.std.proofs.lemmas.List.{length-map, append-nil}
-use Rattle.std.proofs.Common.{◌≡◌, ℕ, zero, suc, ◌+◌, ◌-◌, ◌*◌, ◌%◌, ◌^◌, ◌<◌, ◌≤◌, ◌≢◌, ◌⊎◌, inl, inr, ⊎_elim, List, [], ◌∷◌, ◌++◌, length, set, slice_index, slice_set, sym, refl, ap, subst, ◌∙◌, arith}
+use Rattle.std.proofs.Common.{◌≡◌, ℕ, zero, suc, ◌+◌, ◌*◌, ◌%◌, ◌^◌, ◌<◌, ◌≤◌, ◌≢◌, ◌⊎◌, inl, inr, ⊎_elim, List, [], ◌∷◌, ◌++◌, length, set, slice_index, slice_set, sym, refl, ap, subst, ◌∙◌, arith}
 use mathlib.Core.Option.{some, none, some-injective, some-ne-none}
 use native.Mathlib.Decide.{dec_lt, dec_le, ℕ_discrete}
 use lib.ListN.{get_elem?}
-use Rattle.atomic_table.specs.Table.{State, Me, Step, step, Act, keeps, takes, gives, chain, put_back, rest, carried_after, homes_after, Valid, stepped, Allows, Splits, Joins, opening, Final, Seen}
+use Rattle.atomic_table.specs.Table.{State, Me, step, Act, takes, gives, chain, put_back, rest, carried_after, homes_after, Valid, Allows, Splits, Joins, opening, Final, Seen}
 use Rattle.atomic_table.proofs.Lists.{at_set, at_snoc, set_here, set_else, at_longer, at_map}
 use Rattle.cow_crew.specs.declared.place.Place.{Place}
 use Rattle.cow_crew.specs.declared.rule.View.{View}
-use Rattle.cow_crew.specs.Rule.{total, same, below, past, times, ends, last, last_of, next_after, EndsPast, IsWaiting, IsDone, IsReady, IsOut, IsViewOf, IsKept, viewed, opened, drawn_by, left, right, both, spent, HasDrawn}
+use Rattle.cow_crew.specs.Rule.{total, times, ends, last, last_of, next_after, EndsPast, IsWaiting, IsDone, IsReady, IsOut, IsViewOf, IsKept, opened, drawn_by, left, right, both, spent, HasDrawn}
 use Rattle.cow_crew.proofs.Counts.{total_set, total_snoc, total_less, one_le, two_le, times-append, ends-append, last-append, last_times, last_ends}
 
 pub last_both : (xs ys : List ℕ) → ((ys ≡ []) × (last (xs ++ ys) ≡ last xs)) ⊎ ((last (xs ++ ys) ≡ last ys) × ((x : ℕ) × (last ys ≡ some x)))
@@ -89,9 +89,6 @@ module _ {J X : Type 0} (R : J → X → Type 0) (jobs : List J) where
         let mine = (k.each_view id v seated).may_draw some_part (not_ended v c is ready) in
         let t = total_less (λ u. ends (length jobs) u.numbers) (λ u. u.parts) s.views (λ i u at. (k.each_view i u at).room) id v seated mine in
         let p = k.parts in let e = k.ended in omega (arith, t, p, e)
-
-    after_draw : List (View J)
-    after_draw = set s.views id (drawn_by v k.drawn)
 
     next_view : IsViewOf jobs (drawn_by v k.drawn)
     next_view =

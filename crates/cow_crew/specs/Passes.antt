@@ -1,5 +1,5 @@
 -- What contracts see of a board and of a pass, and what a pass carries.
-use Rattle.std.specs.Prelude.{◌≡◌, ℕ, ◌+◌, ◌-◌, ◌<◌, ◌≤◌, ◌⊎◌, Bool, true, false, List, [], ◌∷◌, ◌++◌, length, Option, Some, None, MatchOption}
+use Rattle.std.specs.Prelude.{◌≡◌, ℕ, ◌+◌, ◌<◌, ◌≤◌, ◌⊎◌, Bool, true, false, List, [], ◌∷◌, ◌++◌, length, Option, Some, None, MatchOption}
 use mathlib.Core.Option.{some}
 use mathlib.Core.Option as maybe
 use lib.ListN.{get_elem?}
@@ -26,6 +26,7 @@ pub record Progress (J : Type 0) : Type 0 where
   pub served : Bool
 
 module _ {J : Type 0} where
+  -- a board with this table and these jobs
   abbrev pub listing : TableId → List J → Listing J
   listing t js = record { table = t; jobs = js }
 

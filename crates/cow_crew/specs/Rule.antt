@@ -100,6 +100,7 @@ pub record IsKept {J X : Type 0} (gives : J → X → Type 0) (jobs : List J) (s
   pub done : (i : ℕ) (j : J) → get_elem? jobs i ≡ some j → i < drawn → IsOut s.views i ⊎ ((y : Place J X) × (get_elem? s.homes i ≡ some (some y)) × IsDone gives j y)
 
 module _ {J : Type 0} where
+  -- a view of these
   abbrev pub viewed : List J → List ℕ → ℕ → View J
   viewed js xs k = record { jobs = js; numbers = xs; parts = k }
 
@@ -111,17 +112,19 @@ module _ {J : Type 0} where
   abbrev pub drawn_by : View J → ℕ → View J
   drawn_by v r = viewed v.jobs (v.numbers ++ r ∷ []) v.parts
 
-  -- after a split, the view that stays and the new one
+  -- after a split, the view that stays
   abbrev pub left : View J → View J
   left v = viewed v.jobs v.numbers (v.parts - 1)
 
+  -- and the new one
   abbrev pub right : View J → View J
   right v = viewed v.jobs [] 1
 
-  -- after a join, the view that stays and the spent one
+  -- after a join, the view that stays
   abbrev pub both : View J → View J → View J
   both v w = viewed v.jobs (w.numbers ++ v.numbers) (v.parts + w.parts)
 
+  -- and the spent one
   abbrev pub spent : View J
   spent = viewed [] [] 0
 

@@ -15,8 +15,8 @@ use std::snapshot::Snapshot;
 
 /// Jobs that threads share, each of which is run once by whoever draws its number.
 ///
-/// Contracts see it as a `Listing`: its table, and the list of the jobs that it was opened with, which
-/// no call changes. Threads share it by `&`, each with a pass of its own. No call waits.
+/// Contracts see it as a `Listing`: its table, and the list of the jobs that it was opened with,
+/// which no call changes. Threads share it by `&`, each with a pass of its own. No call waits.
 #[derive(Drop)]
 pub struct Board<J: Job> {
     table: Table<Place<J, J::Out>, View<J>, Snapshot<Vec<J>>, BoardRule<J>, Global>,
@@ -36,7 +36,8 @@ impl<J: Job> Model for Board<J> {
 impl<J: Job> Board<J> {
     ghost use Rattle.cow_crew.specs.Passes.{first_pass, with_parts, joined_by, IsOf, HasJob, HasEnded, MayDraw, Draws};
 
-    /// A board of these jobs, and its first pass, which has all parts: one more than there are jobs.
+    /// A board of these jobs, and its first pass, which has all parts: one more than there are
+    /// jobs.
     ///
     /// It takes memory for a slot a job. Refused, the jobs are dropped.
     pub fn open(alloc: Global, jobs: Vec<J>) -> Result<(Board<J>, Pass<J>), NoMemory>
@@ -65,8 +66,8 @@ impl<J: Job> Board<J> {
         Pass { seat, last: None }
     }
 
-    /// Draws the next number, by one fetch_add: Some where it is that of a job, and None exactly where
-    /// it is past the jobs. The pass has ended then, and may join another one.
+    /// Draws the next number, by one fetch_add: Some where it is that of a job, and None exactly
+    /// where it is past the jobs. The pass has ended then, and may join another one.
     pub fn draw(&self, pass: &mut Pass<J>) -> Option<u32>
         requires of { IsOf self.now pass.old }
         requires ready { MayDraw pass.old }
@@ -99,7 +100,8 @@ impl<J: Job> Board<J> {
         put_result(&self.table.shared, &mut pass.seat, slot, out);
     }
 
-    /// Takes in a pass that has ended: its numbers, before those that pass has, and its parts. One load.
+    /// Takes in a pass that has ended: its numbers, before those that pass has, and its parts. One
+    /// load.
     pub fn join(&self, pass: &mut Pass<J>, other: Pass<J>)
         requires of { IsOf self.now pass.old }
         requires other { IsOf self.now other }

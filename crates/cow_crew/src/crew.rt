@@ -81,13 +81,13 @@ fn join_all<J: Job>(board: &Board<J>, mut passes: Vec<Pass<J>>) -> Pass<J>
     whole
 }
 
-/// Runs each job once, on at most `workers` threads, job i after `gate.pass(i)`. The i-th result is one
-/// that the i-th job gives.
+/// Runs each job once, on at most `workers` threads, job i after `gate.pass(i)`. The i-th result
+/// is one that the i-th job gives.
 ///
-/// Each worker draws its next job when it is done with one, by one atomic step, so none is idle while
-/// a job waits to be run. A gate that waits holds up its own worker alone. Where the system has no
-/// thread left, a worker runs in a thread that there is. The memory is that of a slot a job, of a pass
-/// a worker and of the results.
+/// Each worker draws its next job when it is done with one, by one atomic step, so none is idle
+/// while a job waits to be run. A gate that waits holds up its own worker alone. Where the system
+/// has no thread left, a worker runs in a thread that there is. The memory is that of a slot a
+/// job, of a pass a worker and of the results.
 ///
 /// `NoMemory` comes for want of memory alone. Jobs that were not run and results are dropped then.
 pub fn run_all<R: Threads + Sync, J: Job, G: Gate>(

@@ -13,8 +13,8 @@ pub trait Job: Send + Drop {
         ensures { gives self result };
 }
 
-/// What stands before each job. One that holds a job until others have passed shows that they run at
-/// once.
+/// What stands before each job. One that holds a job until others have passed shows that they run
+/// at once.
 pub trait Gate: Sync {
     /// Is called once for each job, by the worker that runs it, just before it does. `task` is the
     /// job's number, from 0 on.

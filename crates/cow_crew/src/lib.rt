@@ -1,23 +1,24 @@
-//! Jobs that several threads draw from one table and run, with their results in the order of the jobs.
+//! Jobs that several threads draw from one table and run, with their results in the order of the
+//! jobs.
 //!
-//! A `Board` is a table of the kit's `atomic_table` with one word and a slot for each job. The word is
-//! the number of draws. Whoever has a `Pass` draws the next number by one fetch_add; where it is that
-//! of a job, the pass then has the slot, takes the job out, runs it and puts the result in, and gives
-//! the slot back with its next draw. A number past the jobs ends the pass. `run_all` does this with a
-//! pass for each worker.
+//! A `Board` is a table of the kit's `atomic_table` with one word and a slot for each job. The
+//! word is the number of draws. Whoever has a `Pass` draws the next number by one fetch_add; where
+//! it is that of a job, the pass then has the slot, takes the job out, runs it and puts the result
+//! in, and gives the slot back with its next draw. A number past the jobs ends the pass. `run_all`
+//! does this with a pass for each worker.
 //!
 //! # The invariant
 //!
 //! At every moment between two atomic steps (`specs/Rule.antt`):
 //!
 //! - each number below the word stands in one pass, once, and no other number stands in any;
-//! - the slot of a job that nobody drew holds the job; the slot of the last number of a pass is with
-//!   that pass; every other slot holds a result that its job gives;
+//! - the slot of a job that nobody drew holds the job; the slot of the last number of a pass is
+//!   with that pass; every other slot holds a result that its job gives;
 //! - the passes have one part more than there are jobs, and no pass has drawn more ends than it has
 //!   parts. So the word is at most `2 n + 1` for n jobs and never wraps.
 //!
-//! So each job is run by one pass, once. A pass that has all parts, and whose last number is past the
-//! jobs, is the only one that has drawn anything, so every slot is home with its result.
+//! So each job is run by one pass, once. A pass that has all parts, and whose last number is past
+//! the jobs, is the only one that has drawn anything, so every slot is home with its result.
 //!
 //! # What the layer above may use
 //!

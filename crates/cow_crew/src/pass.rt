@@ -8,8 +8,9 @@ use std::marker::Model;
 /// The right to draw at one board.
 ///
 /// Contracts see it as a `Progress`: the table and the jobs of its board, the numbers that it has
-/// drawn, its parts, and whether its last number was served. Parts bound how many passes may end. A
-/// pass may go to another thread. One that is dropped keeps its parts, so its board can't be closed.
+/// drawn, its parts, and whether its last number was served. Parts bound how many passes may end.
+/// A pass may go to another thread. One that is dropped keeps its parts, so its board can't be
+/// closed.
 #[derive(Drop)]
 pub struct Pass<J: Job> {
     pub(crate) seat: Seat<Place<J, J::Out>, View<J>>,

@@ -1,4 +1,5 @@
-//! Plain work on the slots: what a seat does with the one that it has, and what comes out at the end.
+//! Plain work on the slots: what a seat does with the one that it has, and what comes out at the
+//! end.
 ghost use Rattle.std.specs.Prelude.{◌≡◌, ◌≤◌, vec_len, vec_capacity};
 ghost use Rattle.core.specs.Mem.Slots.{slots_items, slots_len, IsFull};
 ghost use Rattle.cow_crew.specs.Places.{IsSameSeat, CarriesJob, CarriesName, CarriesResult, AllDone, AreResults};

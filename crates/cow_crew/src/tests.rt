@@ -1,5 +1,5 @@
-//! What no clause says: that memory suffices, that workers run jobs at the same time, that no job waits
-//! behind another one's gate, and that a job runs after its own.
+//! What no clause says: that memory suffices, that workers run jobs at the same time, that no job
+//! waits behind another one's gate, and that a job runs after its own.
 ghost use Rattle.std.specs.Prelude.{◌≡◌, ◌≤◌, vec_len, IsTrue};
 ghost use Rattle.cow_crew.specs.Passes.{IsOf, HasEnded, MayDraw};
 

@@ -1,4 +1,4 @@
-use Rattle.std.proofs.Common.{rules, arith, ◌≡◌, ℕ, ◌+◌, ◌++◌, ◌∷◌, List, ap, sym, ◌∙◌, length, All, sum_by}
+use Rattle.std.proofs.Common.{arith, ap, ◌∙◌}
 use Rattle.cow_crew.specs.Passes.{Progress, IsOver}
 use Rattle.cow_crew.proofs.Passing.{pop_all, pop_sum, joined_ended}
 use Rattle.cow_crew.proofs.crew.join_all.Goals as goal
@@ -26,8 +26,7 @@ loop-pass-preserved g c =
     let now = c.join.ensures in
     let parts = ap (λ t. t.parts) now in
     let was = c.loop-pass.invariant.0 in
-    let old = c.loop-pass.invariant.2 in
-    (
+    let old = c.loop-pass.invariant.2 in (
       ((ap (λ t. t.table) now ∙ was.0.0, ap (λ t. t.jobs) now ∙ was.0.1), joined_ended c.loop-pass.whole c.in-Some-pop.pass c.join.new.pass now was.1),
       both.0,
       omega (arith, sum, parts, old),

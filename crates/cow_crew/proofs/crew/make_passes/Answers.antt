@@ -1,9 +1,7 @@
-use Rattle.std.proofs.Common.{rules, arith, ◌≡◌, ◌+◌, ◌++◌, ◌∷◌, [], ap, sym, ◌∙◌, length, All, sum_by}
-use Rattle.std.proofs.lemmas.Grind.{common_steps}
-use Rattle.std.proofs.lemmas.List.Elements.{All-append}
+use Rattle.std.proofs.Common.{arith, ◌≡◌, ◌++◌, ◌∷◌, [], ap, ◌∙◌, sum_by}
+use Rattle.std.proofs.lemmas.List.Elements.{All-push}
 use Rattle.std.proofs.lemmas.List.Sums.{sum_by_push}
 use Rattle.cow_crew.specs.Passes.{Progress, IsIdle}
-use Rattle.cow_crew.proofs.Passing.{all_cons}
 use Rattle.cow_crew.proofs.crew.make_passes.Goals as goal
 
 pub loop-made-preserved : goal.loop-made-preserved
@@ -19,7 +17,7 @@ loop-made-preserved g c =
     let grown = c.in_ok-push.ensures.len in
     let i2 = inv.2 in let i3 = inv.3 in let i4 = inv.4 in let count = c.requires.count in let low = c.loop-made-test.true in (
       ((ap (λ t. t.table) kept ∙ inv.0.0.0, ap (λ t. t.jobs) kept ∙ inv.0.0.1), ap (λ t. t.numbers) kept ∙ inv.0.1),
-      rw pushed (All-append (IsIdle c.args.board.now) c.loop-made.all.items (c.split-another.result ∷ []) inv.1 (all_cons (IsIdle c.args.board.now) c.split-another.result [] ((ap (λ t. t.table) given ∙ inv.0.0.0, ap (λ t. t.jobs) given ∙ inv.0.0.1), ap (λ t. t.numbers) given ∙ inv.0.1) (λ k d lt. absurd (omega (arith, lt))))),
+      rw pushed (All-push (IsIdle c.args.board.now) c.loop-made.all.items c.split-another.result inv.1 ((ap (λ t. t.table) given ∙ inv.0.0.0, ap (λ t. t.jobs) given ∙ inv.0.0.1), ap (λ t. t.numbers) given ∙ inv.0.1)),
       omega (arith, grown, i2),
       omega (arith, grown, fewer, i2, i3, count, low),
       omega (arith, sum, sum', one, grown, i4),

@@ -15,8 +15,7 @@ loop-pass-smaller g c =
 pub returns : goal.returns
 returns g c =
     let d = c.draw.ensures in
-    let of = c.loop-pass.invariant.0 in
-    (
+    let of = c.loop-pass.invariant.0 in (
       ((ap (λ t. t.table) d.gains ∙ of.0, ap (λ t. t.jobs) d.gains ∙ of.1), has_ended _ _ _ d (sym c.is_some.ensures ∙ c.loop-pass-test.false)),
       ap (λ t. t.parts) d.gains ∙ c.loop-pass.invariant.1,
     )

@@ -3,7 +3,7 @@ use Rattle.std.proofs.lemmas.Grind.{common_steps}
 use Rattle.std.proofs.lemmas.Option.{slice_get_within, get_or_from_slice_get}
 use Rattle.cow_crew.specs.Passes.{Progress, Works}
 use denote.Exit.{no}
-use denote.Param.Send.{param_send, param_sync, arg_send, arg_sync, sendable}
+use denote.Param.Send.{param_send, arg_send, sendable}
 use Rattle.cow_crew.proofs.Crossing.{pass_send, board_sync}
 use Rattle.cow_crew.proofs.crew.work_all.Goals as goal
 

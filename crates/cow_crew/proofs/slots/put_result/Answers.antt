@@ -1,4 +1,4 @@
-use Rattle.std.proofs.Common.{rules, ◌≡◌, ℕ, sym, ap, ◌∙◌, ◌∷◌, []}
+use Rattle.std.proofs.Common.{rules, sym, ap, ◌∙◌, ◌∷◌}
 use Rattle.atomic_table.specs.Table.{rest}
 use Rattle.cow_crew.proofs.Carrying.{alone, one_slot}
 use Rattle.cow_crew.proofs.slots.put_result.Goals as goal

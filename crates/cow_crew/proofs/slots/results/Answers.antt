@@ -1,8 +1,8 @@
-use Rattle.std.proofs.Common.{rules, arith, ◌≡◌, ℕ, ◌++◌, ◌∷◌, [], length, sym, ap, ◌∙◌}
+use Rattle.std.proofs.Common.{rules, arith, ◌≡◌, ◌++◌, ◌∷◌, [], length, sym, ap, ◌∙◌}
 use Rattle.std.proofs.lemmas.Grind.{common_steps}
 use lib.ListN.{get_elem?}
 use Rattle.core.specs.Mem.Slots.{slots_items}
-use Rattle.cow_crew.proofs.Carrying.{one_out, AreResultsSoFar}
+use Rattle.cow_crew.proofs.Carrying.{one_out}
 use Rattle.cow_crew.proofs.slots.results.Goals as goal
 
 pub loop-i-preserved : goal.loop-i-preserved

@@ -1,6 +1,6 @@
-use Rattle.std.proofs.Common.{rules, ◌≡◌, ℕ, sym, ap, ◌∙◌, ◌∷◌, []}
+use Rattle.std.proofs.Common.{rules, ap, ◌∙◌, ◌∷◌}
 use Rattle.atomic_table.specs.Table.{rest}
-use Rattle.cow_crew.proofs.Carrying.{alone, one_slot}
+use Rattle.cow_crew.proofs.Carrying.{alone}
 use Rattle.cow_crew.proofs.slots.take_job.Goals as goal
 
 pub slot_mut-requires : goal.slot_mut-requires

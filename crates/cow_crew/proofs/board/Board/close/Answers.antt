@@ -1,4 +1,4 @@
-use Rattle.std.proofs.Common.{rules, arith, ◌≡◌, ◌+◌, List, length, sym, ap, subst, ◌∙◌}
+use Rattle.std.proofs.Common.{◌≡◌, ◌+◌, List, length, sym, ap, subst, ◌∙◌}
 use Rattle.core.specs.Mem.Slots.{slots_items, slots_counts}
 use Rattle.cow_crew.specs.Order.{InOrder}
 use Rattle.cow_crew.specs.Rule.{EndsPast}

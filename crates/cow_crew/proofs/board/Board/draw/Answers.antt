@@ -1,4 +1,4 @@
-use Rattle.std.proofs.Common.{rules, arith, ap, sym, subst, ◌∙◌, ◌≡◌, ◌⊎◌, [], true}
+use Rattle.std.proofs.Common.{rules, arith, sym, subst, ◌≡◌, ◌⊎◌, [], true}
 use mathlib.Core.Option.{none}
 use Rattle.atomic_table.specs.Table.{step}
 use Rattle.cow_crew.specs.Passes.{Progress}

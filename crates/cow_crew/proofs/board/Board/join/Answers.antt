@@ -1,10 +1,9 @@
-use Rattle.std.proofs.Common.{rules, arith, ap, sym, subst, ◌∙◌, ◌≡◌, ℕ, length, List, Option}
+use Rattle.std.proofs.Common.{rules, ap, sym, subst, ◌∙◌, ℕ, length, List, Option}
 use Rattle.atomic_table.specs.Table.{Me}
-use Rattle.std.specs.Option.{option_or}
 use Rattle.cow_crew.specs.Rule.{EndsPast, both}
 use Rattle.cow_crew.specs.declared.place.Place.{Place}
 use Rattle.cow_crew.specs.declared.rule.View.{View}
-use Rattle.cow_crew.specs.Passes.{Progress, HasEnded, Fits}
+use Rattle.cow_crew.specs.Passes.{HasEnded, Fits}
 use Rattle.cow_crew.proofs.Steps.{joins}
 use Rattle.cow_crew.proofs.Fitting.{ended_idle, fits_joined}
 use Rattle.cow_crew.proofs.board.Board.join.Goals as goal

@@ -1,5 +1,5 @@
-use Rattle.std.proofs.Common.{rules, arith, ap, sym, subst, ◌∙◌, ◌≡◌, false}
-use Rattle.cow_crew.specs.Passes.{Progress, HasJob, Fits, served_of, is_done}
+use Rattle.std.proofs.Common.{ap, sym, subst, ◌∙◌, ◌≡◌, false}
+use Rattle.cow_crew.specs.Passes.{Progress, HasJob, served_of, is_done}
 use Rattle.cow_crew.proofs.Carrying.{one_name}
 use mathlib.Core.Option.{some}
 use Rattle.cow_crew.proofs.Fitting.{fresh_job, fits_done}

@@ -1,6 +1,5 @@
-use Rattle.std.proofs.Common.{rules, arith, ap, sym, subst, ◌∙◌}
+use Rattle.std.proofs.Common.{rules}
 use Rattle.cow_crew.proofs.Steps.{splits}
-use Rattle.cow_crew.proofs.Fitting.{fits_parts, fits_new}
 use Rattle.cow_crew.proofs.board.Board.split.Goals as goal
 
 pub split_seat-seat-requires : goal.split_seat-seat-requires
