@@ -1,0 +1,9 @@
+pub mod Counts
+pub mod Steps
+pub mod Places
+pub mod Carrying
+pub mod Fitting
+pub mod Ending
+pub mod Crossing
+pub mod Passing
+pub mod Order

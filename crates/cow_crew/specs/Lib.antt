@@ -1,0 +1,4 @@
+pub mod Order
+pub mod Passes
+pub mod Places
+pub mod Rule
