@@ -21,8 +21,6 @@ mod script;
 mod sharing;
 mod statements;
 mod step;
-#[cfg(test)]
-mod tests;
 
 pub use copies::Whole;
 pub use script::{Told, run, run_script};

@@ -1,4 +1,8 @@
-ghost use Rattle.std.specs.Prelude.{◌≡◌, length, min, take, drop, Some};
+ghost use Rattle.std.specs.Prelude.{◌≡◌, ◌↔◌, length, min, take, Some, Contains, IsOk, IsErr, IfOk};
+ghost use Rattle.std.specs.Io.{ReadsAtMost, WritesAtMost};
+ghost use Rattle.std.specs.Io.KnownBytes.{ReadConsumes, WriteAppends};
+ghost use Rattle.cow_port.specs.Causes.{HasCause, TakesSome, one_more};
+ghost use Rattle.cow_port.specs.Kept.{rest_of, KeepsSource, KeepsSink};
 
 use crate::port::{Failed, Sink, Source, counted};
 
@@ -21,11 +25,18 @@ pub struct PlainSource {
 }
 
 impl Source for PlainSource {
-    ghost left = { λ s. Some (drop s.at s.bytes.items) };
+    ghost left = { λ s. rest_of s.bytes.items s.at };
 
     ghost faults = { λ _. 0 };
 
-    fn read(&mut self, room: &mut [u8]) -> Result<usize, Failed> {
+    fn read(&mut self, room: &mut [u8]) -> Result<usize, Failed>
+        ensures bound { ReadsAtMost result room.new }
+        ensures bytes { ReadConsumes (rest_of self.old.bytes.items self.old.at)
+            (rest_of self.new.bytes.items self.new.at) result room.new }
+        ensures cause { HasCause 0 0 result }
+        ensures never { IsOk result }
+        ensures kept { self.new.bytes ≡ self.old.bytes }
+    {
         if self.at >= self.bytes.len() {
             return Ok(0);
         }
@@ -52,11 +63,18 @@ pub struct MemorySource {
 }
 
 impl Source for MemorySource {
-    ghost left = { λ s. Some (drop s.at s.bytes.items) };
+    ghost left = { λ s. rest_of s.bytes.items s.at };
 
     ghost faults = { λ s. s.faults };
 
-    fn read(&mut self, room: &mut [u8]) -> Result<usize, Failed> {
+    fn read(&mut self, room: &mut [u8]) -> Result<usize, Failed>
+        ensures bound { ReadsAtMost result room.new }
+        ensures bytes { ReadConsumes (rest_of self.old.bytes.items self.old.at)
+            (rest_of self.new.bytes.items self.new.at) result room.new }
+        ensures cause { HasCause self.old.faults self.new.faults result }
+        ensures fails { IsErr result ↔ Contains self.old.failing.items (one_more self.old.calls) }
+        ensures kept { KeepsSource self.old self.new }
+    {
         self.calls = self.calls.saturating_add(1);
         if self.failing.contains(&self.calls) {
             return Err(counted(&mut self.faults));
@@ -90,7 +108,14 @@ impl Sink for MemorySink {
 
     ghost faults = { λ s. s.faults };
 
-    fn write(&mut self, piece: &[u8]) -> Result<usize, Failed> {
+    fn write(&mut self, piece: &[u8]) -> Result<usize, Failed>
+        ensures bound { WritesAtMost result piece.now }
+        ensures some { IfOk result (λ n. TakesSome n piece.now) }
+        ensures bytes { WriteAppends (Some self.old.bytes.items) (Some self.new.bytes.items) result piece.now }
+        ensures cause { HasCause self.old.faults self.new.faults result }
+        ensures fails { Contains self.old.failing.items (one_more self.old.calls) → IsErr result }
+        ensures kept { KeepsSink self.old self.new }
+    {
         self.calls = self.calls.saturating_add(1);
         let free = self.bytes.capacity() - self.bytes.len();
         let count = piece.len().min(free).min(self.most.max(1));
@@ -101,66 +126,5 @@ impl Sink for MemorySink {
             Ok(()) => Ok(count),
             Err(_) => Err(counted(&mut self.faults)),
         }
-    }
-}
-
-#[cfg(test)]
-mod tests {
-    use super::*;
-    use std::test::Fail;
-
-    #[test]
-    fn a_plain_source_gives_what_fits(rt: HostRuntime) -> Result<(), Fail> {
-        let mut source = PlainSource {
-            bytes: b"abc".to_vec(rt.alloc())?,
-            at: 0,
-        };
-        let mut room = [0; 2];
-        assert_eq!(rt; source.read(&mut room), Ok(2));
-        assert_eq!(rt; room, *b"ab");
-        assert_eq!(rt; source.read(&mut room), Ok(1));
-        assert_eq!(rt; room[0], b'c');
-        assert_eq!(rt; source.read(&mut room), Ok(0));
-        Ok(())
-    }
-
-    #[test]
-    fn a_source_gives_parts_and_fails_where_told(rt: HostRuntime) -> Result<(), Fail> {
-        let alloc = rt.alloc();
-        let mut source = MemorySource {
-            bytes: b"abc".to_vec(alloc)?,
-            at: 0,
-            most: 0,
-            calls: 0,
-            failing: vec![in alloc; 2]?,
-            faults: 0,
-        };
-        let mut room = [0; 4];
-        assert_eq!(rt; source.read(&mut room), Ok(1));
-        assert_eq!(rt; source.read(&mut room), Err(Failed));
-        assert_eq!(rt; source.faults, 1);
-        assert_eq!(rt; source.read(&mut room), Ok(1));
-        assert_eq!(rt; room[0], b'b');
-        Ok(())
-    }
-
-    #[test]
-    fn a_sink_takes_parts_fails_where_told_and_never_grows(rt: HostRuntime) -> Result<(), Fail> {
-        let alloc = rt.alloc();
-        let mut sink = MemorySink {
-            bytes: Vec::with_capacity(alloc, 3)?,
-            most: 2,
-            calls: 0,
-            failing: vec![in alloc; 2]?,
-            faults: 0,
-        };
-        assert_eq!(rt; sink.write(b"abc"), Ok(2));
-        assert_eq!(rt; sink.write(b"c"), Err(Failed));
-        assert_eq!(rt; sink.write(b"cd"), Ok(1));
-        assert_eq!(rt; sink.write(b""), Ok(0));
-        assert_eq!(rt; sink.write(b"d"), Err(Failed));
-        assert_eq!(rt; sink.bytes.as_slice(), b"abc".as_slice());
-        assert_eq!(rt; sink.faults, 2);
-        Ok(())
     }
 }

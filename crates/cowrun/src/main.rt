@@ -1,34 +1,28 @@
-//! The program: runs a script from standard input to standard output.
+//! The program: joins the top call to the command line, to the system's streams, and to a new stock.
 //!
-//! [`cowrun`] is the top call, generic over its source and sink, and its contract is the whole table of
-//! answers. Below it stand reading ([`input`]), running ([`run`]) and writing ([`output`], [`lines`]). `main`
-//! only joins it to the command line, to the system's streams, which no proof speaks of, and to a new stock.
+//! No proof speaks of what the command line and the streams give and take. Without memory for the words
+//! nothing is read or written, and the status is that of want of memory.
 #![tactic(auto)]
 
 ghost use Rattle.cow_cell.specs.Opens.{Opens};
 
-mod command;
-mod input;
-mod lines;
-mod output;
-mod run;
-mod status;
-#[cfg(test)]
-mod tests;
-
-pub use command::cowrun;
 use cow_cell::{Holder, Opening, Stock};
 use cow_port::{ReaderSource, WriterSink};
-pub use status::Status;
+use cow_run::{Status, cowrun};
 use std::alloc::{AllocError, Global};
 use std::marker::Brand;
 use std::process::ExitCode;
 use std::{env, io};
 
-// The words behind the program's name.
-fn words_given(rt: &HostRuntime) -> io::Result<Vec<String>> {
+// The words behind the program's name. Where one of them is no text there are none, which is no option.
+fn words_given(rt: &HostRuntime) -> Result<Vec<String>, AllocError> {
     let mut words = Vec::new(rt.alloc());
-    for word in env::args(rt)?.skip(1) {
+    let given = match env::args(rt) {
+        Ok(given) => given,
+        Err(why) if why.kind() == io::ErrorKind::OutOfMemory => return Err(AllocError),
+        Err(_) => return Ok(words),
+    };
+    for word in given.skip(1) {
         words.push(word)?;
     }
     Ok(words)
@@ -39,10 +33,10 @@ fn run_words<Q: Stock>(
     rt: &HostRuntime,
     alloc: Global,
     opening: Opening,
-    words: &[String],
 ) -> Result<Status, AllocError>
     requires { Opens Q.Stock opening }
 {
+    let words = words_given(rt)?;
     let words: Vec<&str> = words.iter().map(|word| word.as_str()).collect(alloc)?;
     let mut source = ReaderSource {
         reader: rt.reader(),
@@ -57,8 +51,6 @@ fn run_words<Q: Stock>(
 }
 
 fn main(rt: HostRuntime) -> ExitCode {
-    let alloc = rt.alloc();
-    let words = words_given(&rt).unwrap_or(Vec::new(alloc));
-    let status = run_words::<Brand>(&rt, alloc, Opening::new(), &words).unwrap_or(Status::NoMemory);
-    ExitCode::from(status)
+    let status = run_words::<Brand>(&rt, rt.alloc(), Opening::new());
+    ExitCode::from(status.unwrap_or(Status::NoMemory))
 }

@@ -1,0 +1,88 @@
+-- What was written while a script ran.
+use Rattle.std.proofs.Common.{◌≡◌, ℕ, ◌+◌, ◌<◌, List, [], ◌∷◌, ◌++◌, length, drop, get_or, sym, ◌∙◌, ap, subst, append_assoc, refl, inl, inr, Bool, true, false, if◌then◌else◌}
+use Rattle.std.specs.Prelude.{Option, Some, None}
+use Rattle.std.proofs.lemmas.List.{at_drop_more}
+use Rattle.std.specs.Io.KnownBytes.{Appends}
+use Rattle.cow_model.specs.Env.{start}
+use Rattle.cow_model.specs.Run.{run_one, text_from, text_of, env_after, bound}
+use Rattle.cow_model.specs.declared.outcome.Environment.{Environment}
+use Rattle.cow_model.specs.declared.statement.Statement.{Statement, out-Statement}
+use Rattle.cow_eval.specs.Built.{is_built, line_of, unbuilt_line}
+use Rattle.cow_run.specs.Answer.{IsLine, whole_text}
+use Rattle.cow_run.specs.Lines.{census_if}
+use Rattle.cow_run.specs.Output.{WritesFront, WritesLine}
+use Rattle.cow_run.proofs.Known.{appends_more}
+
+-- some text was written, and what is to come completes the whole
+pub record HasWritten (before now : Option (List ℕ)) (rest whole : List ℕ) : Type 0 where
+  pub done : List ℕ
+  pub told : done ++ rest ≡ whole
+  pub appended : Appends before now done
+
+-- what was written, and one piece more
+pub written_more : (before now after : Option (List ℕ)) (one rest whole : List ℕ) → HasWritten before now (one ++ rest) whole → Appends now after one → HasWritten before after rest whole
+written_more before now after one rest whole h a = record {
+  done = h.done ++ one;
+  told = append_assoc h.done one rest ∙ h.told;
+  appended = appends_more before now after h.done one h.appended a;
+}
+
+-- what was written, and a front of the next piece
+pub front_more : (before now after : Option (List ℕ)) (one rest whole : List ℕ) → HasWritten before now (one ++ rest) whole → WritesFront now after one → WritesFront before after whole
+front_more before now after one rest whole h (front, is_front, a) =
+    let told : (h.done ++ front) ++ (is_front.0 ++ rest) ≡ whole =
+    append_assoc h.done front (is_front.0 ++ rest) ∙ (ap (λ z. h.done ++ z) (sym (append_assoc front is_front.0 rest) ∙ ap (λ z. z ++ rest) is_front.1) ∙ h.told) in
+    (h.done ++ front, (is_front.0 ++ rest, told), appends_more before now after h.done front h.appended a)
+
+-- a line that was written, whole or in part
+pub line_written : (before after : Option (List ℕ)) (failed : Type 0) (text : List ℕ) → WritesLine before after failed text → (written : List ℕ) × Appends before after written × IsLine failed written text
+line_written before after failed text (inl whole) = (text, whole, inl refl)
+line_written before after failed text (inr (f, (front, is, a))) = (front, a, inr (f, is))
+
+-- what is left of a block is its next statement, and what is left behind it
+pub next_rest : (block : List Statement) (i : ℕ) (s : Statement) → i < length block → s ≡ get_or block i s → drop i block ≡ s ∷ drop (i + 1) block
+next_rest block i s lt is = at_drop_more (λ x. x) block i s lt ∙ ap (λ x. x ∷ drop (i + 1) block) (sym is)
+
+-- how far the statements ss were run: `rest` is left of them
+pub record Stands (before now : Option (List ℕ)) (ss rest : List Statement) (env : Environment) : Type 0 where
+  pub written : HasWritten before now (text_from env [] rest) (text_of ss [])
+  pub ends : env_after env [] rest ≡ env_after start [] ss
+  pub built : unbuilt_line rest ≡ None
+
+-- the first of built statements is built, and so are the others
+pub first_is_built : (b : Bool) (rest : List Statement) (line : ℕ) → (if b then unbuilt_line rest else Some line) ≡ None → (b ≡ true) × (unbuilt_line rest ≡ None)
+first_is_built true rest line p = (refl, p)
+first_is_built false rest line p = cc
+
+pub head_built : (s : Statement) (rest : List Statement) → unbuilt_line (s ∷ rest) ≡ None → (is_built (out-Statement s) ≡ true) × (unbuilt_line rest ≡ None)
+head_built s rest p = first_is_built (is_built (out-Statement s)) rest (line_of (out-Statement s)) p
+
+-- one statement more
+pub stands_more : (before now after : Option (List ℕ)) (ss rest : List Statement) (s : Statement) (env env' : Environment) → Stands before now ss (s ∷ rest) env → env' ≡ (run_one env [] s).env → Appends now after (run_one env [] s).text → Stands before after ss rest env'
+stands_more before now after ss rest s env env' st is a =
+    let more = written_more before now after (run_one env [] s).text (text_from (run_one env [] s).env [] rest) (text_of ss []) st.written a in
+    record {
+      written = subst (λ e. HasWritten before after (text_from e [] rest) (text_of ss [])) (sym is) more;
+      ends = ap (λ e. env_after e [] rest) is ∙ st.ends;
+      built = (head_built s rest st.built).1;
+    }
+
+-- a front of a text is one of a longer text
+pub front_before : (before after : Option (List ℕ)) (text rest : List ℕ) → WritesFront before after text → WritesFront before after (text ++ rest)
+front_before before after text rest (front, is_front, a) =
+    (front, (is_front.0 ++ rest, sym (append_assoc front is_front.0 rest) ∙ ap (λ z. z ++ rest) is_front.1), a)
+
+-- a text was written, and a front of the next one
+pub front_behind : (before now after : Option (List ℕ)) (text next : List ℕ) → Appends before now text → WritesFront now after next → WritesFront before after (text ++ next)
+front_behind before now after text next a (front, is_front, b) =
+    (text ++ front, (is_front.0, append_assoc text front is_front.0 ∙ ap (λ z. text ++ z) is_front.1), appends_more before now after text front a b)
+
+-- the census with the numbers told otherwise
+pub census_front : (before after : Option (List ℕ)) (census : Bool) (copied copied' most most' : ℕ) → copied ≡ copied' → most ≡ most' → WritesFront before after (census_if census copied most) → WritesFront before after (census_if census copied' most')
+census_front before after census copied copied' most most' p q = subst (λ text. WritesFront before after text) (ap (λ n. census_if census n most) p ∙ ap (census_if census copied') q)
+
+-- the text of a script was written, and then its census
+pub census_written : (before now after : Option (List ℕ)) (ss : List Statement) (census : Bool) (copied copied' most : ℕ) → copied ≡ copied' → most ≡ bound ss [] → Appends before now (text_of ss []) → Appends now after (census_if census copied most) → Appends before after (whole_text census copied' ss)
+census_written before now after ss census copied copied' most p q text line =
+    appends_more before now after (text_of ss []) (census_if census copied' (bound ss [])) text
+    (subst (λ t. Appends now after t) (ap (λ n. census_if census n most) p ∙ ap (census_if census copied') q) line)

@@ -1,0 +1,53 @@
+use Rattle.std.proofs.Common.{◌+◌, arith, rules, drop, subst, []}
+use Rattle.std.proofs.lemmas.Result.{err_from_is_err_and}
+use Rattle.cow_model.specs.Run.{text_of}
+use Rattle.cow_eval.specs.Envs.{env_of}
+use Rattle.cow_run.proofs.Counts.{Counts, counts_more, counts_err, counts_end, nothing_left, spare_enough}
+use Rattle.cow_run.proofs.Ran.{Stands, stands_more, front_more, next_rest}
+use Rattle.cow_run.proofs.run.run_statements.Goals as goal
+
+pub run_and_write-requires-clause-spare : goal.run_and_write-requires-clause-spare
+run_and_write-requires-clause-spare g c =
+    let loop = c.loop-statement in
+    spare_enough c.args.statements.now (drop loop.statement-index c.args.statements.now) loop.env loop.h loop.invariant.2 c.requires.read.short
+
+pub loop-statement-preserved : goal.loop-statement-preserved
+loop-statement-preserved g c =
+    let loop = c.loop-statement in
+    let held = g.K.Sink.held in
+    let ss = c.args.statements.now in
+    let did = c.in_ok-run_and_write.ensures in
+    let next = next_rest ss loop.statement-index c.statement-item.result (search rules) c.statement-item.is in
+    let stands = subst (λ rest. Stands (held c.args.sink.now) (held loop.sink) ss rest (env_of loop.env)) next loop.invariant.1 in
+    let counts = subst (λ rest. Counts ss rest loop.env loop.h) next loop.invariant.2 in (
+      omega (arith, loop.invariant.0, c.run_and_write.ensures.later),
+      stands_more _ _ _ _ _ _ _ _ stands did.env did.ok,
+      counts_more ss (drop (loop.statement-index + 1) ss) c.statement-item.result loop.env c.run_and_write.new.env loop.h c.run_and_write.new.h counts did.env c.run_and_write.ensures.copied did.least c.run_and_write.ensures.falls did.bare,
+    )
+
+pub returns-in_err-run_and_write-clause-err : goal.returns-in_err-run_and_write-clause-err
+returns-in_err-run_and_write-clause-err g c =
+    let p = err_from_is_err_and c.from_residual.result c.from_residual.ensures.1 in
+    let loop = c.loop-statement in
+    let held = g.K.Sink.held in
+    let next = next_rest c.args.statements.now loop.statement-index c.statement-item.result (search rules) c.statement-item.is in
+    let stands = subst (λ rest. Stands (held c.args.sink.now) (held loop.sink) c.args.statements.now rest (env_of loop.env)) next loop.invariant.1 in
+    rw p.1 (front_more (held c.args.sink.now) (held loop.sink) (held c.run_and_write.new.sink) _ _ (text_of c.args.statements.now []) stands.written c.in_err-run_and_write.ensures.err)
+
+pub returns-in_err-run_and_write-clause-most : goal.returns-in_err-run_and_write-clause-most
+returns-in_err-run_and_write-clause-most g c =
+    let loop = c.loop-statement in
+    let held = g.K.Sink.held in
+    let ss = c.args.statements.now in
+    let next = next_rest ss loop.statement-index c.statement-item.result (search rules) c.statement-item.is in
+    let stands = subst (λ rest. Stands (held c.args.sink.now) (held loop.sink) ss rest (env_of loop.env)) next loop.invariant.1 in
+    let counts = subst (λ rest. Counts ss rest loop.env loop.h) next loop.invariant.2 in
+    counts_err ss (drop (loop.statement-index + 1) ss) c.statement-item.result loop.env c.run_and_write.new.env loop.h c.run_and_write.new.h counts stands.ends c.run_and_write.ensures.most c.run_and_write.ensures.copied
+
+pub returns-clause-least : goal.returns-clause-least
+returns-clause-least g c =
+    let loop = c.loop-statement in
+    let ss = c.args.statements.now in
+    let none = nothing_left ss loop.statement-index (search rules) in
+    let counts = subst (λ rest. Counts ss rest loop.env loop.h) none loop.invariant.2 in
+    rw c.requires.fresh (counts_end ss loop.env loop.h counts)

@@ -1,0 +1,52 @@
+-- What the parts of a run do.
+use Rattle.std.specs.Prelude.{◌≡◌, ◌+◌, ◌≤◌, Bool, List, length, All, Option, Some, None, ⊤}
+use Rattle.std.specs.Io.KnownBytes.{Appends}
+use Rattle.cow_model.specs.Atoms.{FitsTexts}
+use Rattle.cow_model.specs.Lexis.{Text}
+use Rattle.cow_model.specs.Plain.{max_count}
+use Rattle.cow_model.specs.Purse.{Purse}
+use Rattle.cow_model.specs.Sharing.{literals}
+use Rattle.cow_model.specs.declared.statement.Statement.{Statement, out-Statement}
+use Rattle.cow_eval.specs.Built.{unbuilt_line}
+use Rattle.cow_run.specs.Answer.{stock_units, HasRun, HasRunInPart, HasRunCounted, Leaks, IsLine, Says}
+use Rattle.cow_run.specs.Input.{max_bytes}
+use Rattle.cow_run.specs.Lines.{not_built_text}
+use Rattle.cow_run.specs.declared.status.Status.{Status}
+use Rattle.cow_run.specs.declared.status.Status.TheVariants.{Ok, WriteFault, NoMemory, Leak, NotYet}
+
+-- what every script that was read has: short texts, few literals a statement, and no more statements than bytes and one
+pub record IsRead (ss : List Statement) : Type 0 where
+  pub texts : All (λ s. FitsTexts (out-Statement s)) ss
+  pub few : All (λ s. literals (out-Statement s) ≤ max_count) ss
+  pub short : length ss ≤ max_bytes + 1
+
+-- whether all units came back
+abbrev pub SaysUnits : Purse → Status → Type 0
+SaysUnits h Ok = h.spare ≡ stock_units
+SaysUnits h (Leak spare stock) = Leaks spare stock h
+SaysUnits h status = ⊥
+
+-- these statements are built, and this holds of them
+abbrev pub OfBuilt : List Statement → (List Statement → Type 0) → Type 0
+OfBuilt ss holds = (unbuilt_line ss ≡ None) × holds ss
+
+-- what was written at each status once statements were read
+abbrev pub SaysOf : Type 0 → Bool → List Statement → Text → Purse → Status → Type 0
+SaysOf sink_failed census ss written h Ok = OfBuilt ss (HasRun census written h) × (h.spare ≡ stock_units)
+SaysOf sink_failed census ss written h (Leak spare stock) = OfBuilt ss (HasRunCounted census written h) × Leaks spare stock h
+SaysOf sink_failed census ss written h WriteFault = OfBuilt ss (HasRunInPart census written h)
+SaysOf sink_failed census ss written h NoMemory = OfBuilt ss (HasRunInPart census written h)
+SaysOf sink_failed census ss written h (NotYet line) = (unbuilt_line ss ≡ Some line) × IsLine sink_failed written (not_built_text line)
+SaysOf sink_failed census ss written h status = ⊥
+
+-- what was written to the sink of a run of these statements is what the status says
+pub record StatementsAnswered (before after : Option Text) (sink_failed : Type 0) (census : Bool) (ss : List Statement) (h : Purse) (status : Status) : Type 0 where
+  pub written : Text
+  pub appended : Appends before after written
+  pub says : SaysOf sink_failed census ss written h status
+
+-- what was written to the sink once these bytes were read to their end is what the status says
+pub record BytesAnswered (before after : Option Text) (sink_failed : Type 0) (census : Bool) (bytes : Text) (h : Purse) (status : Status) : Type 0 where
+  pub written : Text
+  pub appended : Appends before after written
+  pub says : Says ⊤ sink_failed census bytes written h status

@@ -1,0 +1,79 @@
+ghost use Rattle.std.specs.Prelude.{◌≡◌, ◌≢◌, ◌↔◌, ◌⊎◌, map, None};
+ghost use Rattle.cow_model.specs.Purse.{whole};
+ghost use Rattle.cow_port.specs.Causes.{Rose};
+ghost use Rattle.cow_run.specs.Answer.{Answers, RunsWhole};
+ghost use Rattle.cow_run.specs.Options as spec;
+ghost use Rattle.cow_run.specs.Options.{asks_census};
+
+use crate::output::write_usage;
+use crate::run::run;
+use crate::status::Status;
+use cow_cell::{Holder, Stock};
+use cow_port::{Sink, Source};
+use std::alloc::Global;
+
+// Whether the words ask for the census. None where they are no option.
+fn options(words: &[&str]) -> Option<bool>
+    ensures { result ≡ spec.options (map (λ w. w.now) words.now) }
+{
+    match *words {
+        [] | [_, _, _, ..] => None,
+        [first] => { if first == "run" { Some(false) } else { None } }
+        [first, second] => {
+            if first == "run" && second == "--census" {
+                Some(true)
+            } else {
+                None
+            }
+        }
+    }
+}
+
+/// The whole program, but for the words, the source, the sink and the holder that it is given: reads a script of
+/// at most 1,048,576 bytes from the source to its end, runs it, and writes what each statement prints
+/// before the next one runs. With `--census` a line that tells the copies follows.
+///
+/// - `Usage` comes exactly where the words are no option, before anything is read.
+/// - `ReadFault` and `WriteFault` come only where the faults of the source or the sink rose.
+/// - `Script` comes with a limit of line 0 exactly where byte 1,048,577 was read, and else exactly where the
+///   bytes are no script, with what is wrong with their first faulty line.
+/// - `NotYet` comes exactly where they are a script with a line that isn't built, with the first such line.
+/// - `NoMemory` is free to come.
+/// - `Ok` says that the source was read to its end, that the sink took exactly what the run writes, and that
+///   all units are back: no storage that the run made is held any more. `Leak` says the first two, and how many
+///   units are back. It never comes of a script without texts.
+///
+/// The holder afterwards has the number of items that were copied, which the census tells. After `Ok`, `Leak`,
+/// `WriteFault` and `NoMemory` it is at most what the sharing rule allows the script (`bound`), or nothing where
+/// none was run; after `Ok` and `Leak` it is at least what the script has to make (`least`). On `Usage`, `Script`
+/// and `NotYet` one line is written; a write that fails there leaves the status as it is.
+pub fn cowrun<Q: Stock, S: Source, K: Sink>(
+    alloc: Global,
+    words: &[&str],
+    source: &mut S,
+    sink: &mut K,
+    h: &mut Holder<Q>,
+) -> Status
+    requires fresh { h.old ≡ whole }
+    ensures usage { (result ≡ Status.Usage) ↔ (spec.options (map (λ w. w.now) words.now) ≡ None) }
+
+    // What was read and written, and the holder, are what the status says.
+    ensures answer { Answers (S.left source.old) (S.left source.new) (K.held sink.old) (K.held sink.new)
+        (Rose (K.faults sink.old) (K.faults sink.new)) (asks_census (spec.options (map (λ w. w.now) words.now))) h.new result }
+    ensures read_fault { result ≡ Status.ReadFault → Rose (S.faults source.old) (S.faults source.new) }
+    ensures write_fault { result ≡ Status.WriteFault → Rose (K.faults sink.old) (K.faults sink.new) }
+
+    // Without faults a built script is run to its end, unless memory runs out.
+    ensures complete { spec.options (map (λ w. w.now) words.now) ≢ None →
+        RunsWhole (S.left source.old) (K.held sink.old) (K.held sink.new)
+        (Rose (S.faults source.old) (S.faults source.new) ⊎ Rose (K.faults sink.old) (K.faults sink.new))
+        (asks_census (spec.options (map (λ w. w.now) words.now))) h.new result }
+{
+    match options(words) {
+        Some(census) => run(alloc, census, source, sink, h),
+        None => {
+            write_usage(sink);
+            Status::Usage
+        }
+    }
+}

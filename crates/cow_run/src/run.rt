@@ -1,0 +1,244 @@
+// Running a script: from a source to a sink.
+ghost use Rattle.std.specs.Prelude.{◌≡◌, ◌≢◌, ◌+◌, ◌^◌, ◌≤◌, [], true, None, length, OnOk, OnErr, IsErrOf};
+ghost use Rattle.std.specs.Io.KnownBytes.{Appends};
+ghost use Rattle.cow_model.specs.Env.{start};
+ghost use Rattle.cow_model.specs.Atoms.{FitsTexts, IsBareLayer};
+ghost use Rattle.cow_model.specs.Literals.{is_text};
+ghost use Rattle.cow_model.specs.Plain.{max_count};
+ghost use Rattle.cow_model.specs.Purse.{whole, RisesBy, RisesWithin};
+ghost use Rattle.cow_model.specs.Run.{run_one, text_of, bound, least_layer, least};
+ghost use Rattle.cow_model.specs.Sharing.{literals};
+ghost use Rattle.cow_model.specs.declared.statement.Statement.{out-Statement};
+ghost use Rattle.cow_eval.specs.Built.{is_built};
+ghost use Rattle.cow_eval.specs.Built as built;
+ghost use Rattle.cow_eval.specs.Entries.{most_units};
+ghost use Rattle.cow_eval.specs.Envs.{env_of, IsBare, Balances};
+ghost use Rattle.cow_port.specs.Causes.{Rose};
+ghost use Rattle.cow_run.specs.Input.{max_bytes};
+ghost use Rattle.cow_run.specs.Output.{WritesFront};
+ghost use Rattle.cow_run.specs.Answer.{Answers, IsBareScript, stock_units, whole_text};
+ghost use Rattle.cow_run.specs.Runs.{IsRead, SaysUnits, StatementsAnswered, BytesAnswered};
+
+use crate::input::{ReadStop, read_all};
+use crate::output::{write_all, write_census, write_fault, write_not_built};
+use crate::status::Status;
+use cow_cell::{Holder, Stock};
+use cow_eval::{Env, first_unbuilt, run_statement};
+use cow_item::Atom;
+use cow_model::{NoMemory, Statement};
+use cow_port::{Failed, Sink, Source};
+use cow_script::{ParseFault, ParseStop, parse};
+use std::alloc::Global;
+
+/// The units of a stock.
+const STOCK: u64 = 0x4000_0000_0000_0000;
+
+/// The fault of a script of more than 1,048,576 bytes.
+const TOO_LONG: ParseFault = ParseFault::Limit {
+    line: 0,
+    quantity: 1_048_577,
+    bound: 1_048_576,
+};
+
+// Why a script was not run to its end.
+#[derive(Clone, Copy, Debug, PartialEq, Eq)]
+enum RunStop {
+    WriteFault,
+    NoMemory,
+}
+
+impl From<NoMemory> for RunStop {
+    ghost use Rattle.std.specs.Prelude.{◌≡◌};
+    ghost use Rattle.cow_run.specs.declared.run.RunStop.TheVariants as stop;
+
+    ghost from_gives = { λ _ e. e ≡ stop.NoMemory };
+
+    fn from(_: NoMemory) -> Self {
+        RunStop::NoMemory
+    }
+}
+
+impl From<Failed> for RunStop {
+    ghost use Rattle.std.specs.Prelude.{◌≡◌};
+    ghost use Rattle.cow_run.specs.declared.run.RunStop.TheVariants as stop;
+
+    ghost from_gives = { λ _ e. e ≡ stop.WriteFault };
+
+    fn from(_: Failed) -> Self {
+        RunStop::WriteFault
+    }
+}
+
+// Runs a statement, and writes what it prints. `text` is room for that.
+fn run_and_write<Q: Stock, K: Sink>(
+    alloc: Global,
+    statement: &Statement,
+    env: &mut Env<Atom<Q>, Q>,
+    text: &mut Vec<u8>,
+    sink: &mut K,
+    h: &mut Holder<Q>,
+) -> Result<(), RunStop>
+    requires built { is_built (out-Statement statement.now) ≡ true }
+    requires texts { FitsTexts (out-Statement statement.now) }
+    requires few { literals (out-Statement statement.now) ≤ max_count }
+    requires spare { 2 ^ 40 ≤ h.old.spare }
+    ensures env { OnOk result (env_of env.new ≡ (run_one (env_of env.old) [] statement.now).env) }
+    ensures ok { OnOk result (Appends (K.held sink.old) (K.held sink.new) (run_one (env_of env.old) [] statement.now).text) }
+    ensures err { OnErr result (WritesFront (K.held sink.old) (K.held sink.new) (run_one (env_of env.old) [] statement.now).text) }
+    ensures most { env.new.allowed ≤ (run_one (env_of env.old) [] statement.now).env.allowed }
+    ensures copied { RisesWithin env.old.allowed env.new.allowed h.old h.new }
+    ensures least { OnOk result (RisesBy (least_layer (env_of env.old) (out-Statement statement.now)) h.old h.new) }
+    ensures falls { h.old.spare ≤ h.new.spare + most_units }
+    ensures bare { IsBare is_text env.old.names → IsBareLayer is_text (out-Statement statement.now) → OnOk result (Balances is_text 0 env.old.names env.new.names h.old h.new) }
+    ensures fault { IsErrOf result RunStop.WriteFault → Rose (K.faults sink.old) (K.faults sink.new) }
+    ensures later { K.faults sink.old ≤ K.faults sink.new }
+{
+    text.clear();
+    run_statement(alloc, statement, env, h, text)?;
+    write_all(sink, text)?;
+    Ok(())
+}
+
+// Runs statements in turn, and writes what each prints before the next one runs.
+fn run_statements<Q: Stock, K: Sink>(
+    alloc: Global,
+    statements: &[Statement],
+    env: &mut Env<Atom<Q>, Q>,
+    sink: &mut K,
+    h: &mut Holder<Q>,
+) -> Result<(), RunStop>
+    requires built { built.unbuilt_line statements.now ≡ None }
+    requires read { IsRead statements.now }
+    requires start { env_of env.old ≡ start }
+    requires empty { env.old.names ≡ [] }
+    requires fresh { h.old ≡ whole }
+    ensures ok { OnOk result (Appends (K.held sink.old) (K.held sink.new) (text_of statements.now [])) }
+    ensures err { OnErr result (WritesFront (K.held sink.old) (K.held sink.new) (text_of statements.now [])) }
+    ensures allowed { OnOk result (env.new.allowed ≡ bound statements.now []) }
+    ensures most { h.new.copied ≤ bound statements.now [] }
+    ensures least { OnOk result (RisesBy (least statements.now []) h.old h.new) }
+    ensures bare { IsBareScript statements.now → OnOk result (IsBare is_text env.new.names × (h.new.spare + length env.new.names ≡ stock_units)) }
+    ensures fault { IsErrOf result RunStop.WriteFault → Rose (K.faults sink.old) (K.faults sink.new) }
+    ensures later { K.faults sink.old ≤ K.faults sink.new }
+{
+    let mut text = Vec::new(alloc);
+    for statement in statements {
+        run_and_write(alloc, statement, env, &mut text, sink, h)?;
+    }
+    Ok(())
+}
+
+// Runs a script, writes the census where it is asked for, and ends the values of all names.
+fn run_script<Q: Stock, K: Sink>(
+    alloc: Global,
+    statements: &[Statement],
+    census: bool,
+    sink: &mut K,
+    h: &mut Holder<Q>,
+) -> Result<(), RunStop>
+    requires built { built.unbuilt_line statements.now ≡ None }
+    requires read { IsRead statements.now }
+    requires fresh { h.old ≡ whole }
+    ensures ok { OnOk result (Appends (K.held sink.old) (K.held sink.new) (whole_text census h.new.copied statements.now)) }
+    ensures err { OnErr result (WritesFront (K.held sink.old) (K.held sink.new) (whole_text census h.new.copied statements.now)) }
+    ensures most { h.new.copied ≤ bound statements.now [] }
+    ensures least { OnOk result (least statements.now [] ≤ h.new.copied) }
+    ensures bare { IsBareScript statements.now → OnOk result (h.new.spare ≡ stock_units) }
+    ensures fault { IsErrOf result RunStop.WriteFault → Rose (K.faults sink.old) (K.faults sink.new) }
+    ensures later { K.faults sink.old ≤ K.faults sink.new }
+{
+    let mut env = Env::<Atom<Q>, Q>::new(alloc);
+    run_statements(alloc, statements, &mut env, sink, h)?;
+    write_census(sink, census, h.copied(), env.allowed())?;
+    env.end(h);
+    Ok(())
+}
+
+// How a run ends that wrote all: whether all units came back.
+fn counted<Q: Stock>(h: &Holder<Q>) -> Status
+    ensures { SaysUnits h.now result }
+{
+    if h.spare() == STOCK {
+        return Status::Ok;
+    }
+    Status::Leak {
+        spare: h.spare(),
+        stock: STOCK,
+    }
+}
+
+// Runs the statements of a script, unless one of them isn't built.
+fn run_built<Q: Stock, K: Sink>(
+    alloc: Global,
+    statements: &[Statement],
+    census: bool,
+    sink: &mut K,
+    h: &mut Holder<Q>,
+) -> Status
+    requires read { IsRead statements.now }
+    requires fresh { h.old ≡ whole }
+    ensures answer { StatementsAnswered (K.held sink.old) (K.held sink.new) (Rose (K.faults sink.old) (K.faults sink.new)) census statements.now h.new result }
+    ensures write_fault { result ≡ Status.WriteFault → Rose (K.faults sink.old) (K.faults sink.new) }
+{
+    if let Some(line) = first_unbuilt(statements) {
+        write_not_built(sink, line);
+        return Status::NotYet { line };
+    }
+    match run_script(alloc, statements, census, sink, h) {
+        Ok(()) => counted(h),
+        Err(RunStop::WriteFault) => Status::WriteFault,
+        Err(RunStop::NoMemory) => Status::NoMemory,
+    }
+}
+
+// Runs the script that these bytes are, where they are one.
+fn run_bytes<Q: Stock, K: Sink>(
+    alloc: Global,
+    bytes: &[u8],
+    census: bool,
+    sink: &mut K,
+    h: &mut Holder<Q>,
+) -> Status
+    requires short { length bytes.now ≤ max_bytes }
+    requires fresh { h.old ≡ whole }
+    ensures usage { result ≢ Status.Usage }
+    ensures read_fault { result ≢ Status.ReadFault }
+    ensures answer { BytesAnswered (K.held sink.old) (K.held sink.new) (Rose (K.faults sink.old) (K.faults sink.new)) census bytes.now h.new result }
+    ensures write_fault { result ≡ Status.WriteFault → Rose (K.faults sink.old) (K.faults sink.new) }
+{
+    match parse(alloc, bytes) {
+        Ok(script) => run_built(alloc, script.statements.as_slice(), census, sink, h),
+        Err(ParseStop::Fault(fault)) => {
+            write_fault(sink, fault);
+            Status::Script(fault)
+        }
+        Err(ParseStop::NoMemory) => Status::NoMemory,
+    }
+}
+
+/// Reads a script from the source to its end, runs it, and writes what it prints to the sink, and the census
+/// where it is asked for.
+pub fn run<Q: Stock, S: Source, K: Sink>(
+    alloc: Global,
+    census: bool,
+    source: &mut S,
+    sink: &mut K,
+    h: &mut Holder<Q>,
+) -> Status
+    requires fresh { h.old ≡ whole }
+    ensures usage { result ≢ Status.Usage }
+    ensures answer { Answers (S.left source.old) (S.left source.new) (K.held sink.old) (K.held sink.new)
+        (Rose (K.faults sink.old) (K.faults sink.new)) census h.new result }
+    ensures read_fault { result ≡ Status.ReadFault → Rose (S.faults source.old) (S.faults source.new) }
+    ensures write_fault { result ≡ Status.WriteFault → Rose (K.faults sink.old) (K.faults sink.new) }
+{
+    match read_all(alloc, source) {
+        Ok(bytes) => run_bytes(alloc, &bytes, census, sink, h),
+        Err(ReadStop::Failed) => Status::ReadFault,
+        Err(ReadStop::NoMemory) => Status::NoMemory,
+        Err(ReadStop::TooLong) => {
+            write_fault(sink, TOO_LONG);
+            Status::Script(TOO_LONG)
+        }
+    }
+}
