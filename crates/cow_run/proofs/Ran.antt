@@ -7,7 +7,8 @@ use Rattle.cow_model.specs.Env.{start}
 use Rattle.cow_model.specs.Run.{run_one, text_from, text_of, env_after, bound}
 use Rattle.cow_model.specs.declared.outcome.Environment.{Environment}
 use Rattle.cow_model.specs.declared.statement.Statement.{Statement, out-Statement}
-use Rattle.cow_eval.specs.Built.{is_built, line_of, unbuilt_line}
+use Rattle.cow_value.specs.Built.{is_built, line_of}
+use Rattle.cow_eval.specs.Statements.{unbuilt_line}
 use Rattle.cow_run.specs.Answer.{IsLine, whole_text}
 use Rattle.cow_run.specs.Lines.{census_if}
 use Rattle.cow_run.specs.Output.{WritesFront, WritesLine}

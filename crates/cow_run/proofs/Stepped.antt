@@ -5,7 +5,7 @@ use Rattle.cow_model.specs.Sharing.{Layer}
 use Rattle.cow_model.specs.Step.{step}
 use Rattle.cow_model.specs.declared.outcome.Environment.{Environment}
 use Rattle.cow_model.specs.declared.statement.Statement.TheOpen.{Statement-F}
-use Rattle.cow_eval.specs.Built.{is_built}
+use Rattle.cow_value.specs.Built.{is_built}
 
 pub run_is_step : (env : Environment) (s : Layer) → is_built s ≡ true → run_layer env [] s ≡ step env [] s
 run_is_step env (Statement-F.Fork l tasks) built = cc

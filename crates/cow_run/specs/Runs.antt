@@ -7,7 +7,7 @@ use Rattle.cow_model.specs.Plain.{max_count}
 use Rattle.cow_model.specs.Purse.{Purse}
 use Rattle.cow_model.specs.Sharing.{literals}
 use Rattle.cow_model.specs.declared.statement.Statement.{Statement, out-Statement}
-use Rattle.cow_eval.specs.Built.{unbuilt_line}
+use Rattle.cow_eval.specs.Statements.{unbuilt_line}
 use Rattle.cow_run.specs.Answer.{stock_units, HasRun, HasRunInPart, HasRunCounted, Leaks, IsLine, Says}
 use Rattle.cow_run.specs.Input.{max_bytes}
 use Rattle.cow_run.specs.Lines.{not_built_text}

@@ -1,22 +1,18 @@
 // Running a script: from a source to a sink.
-ghost use Rattle.std.specs.Prelude.{◌≡◌, ◌≢◌, ◌+◌, ◌^◌, ◌≤◌, [], true, None, length, OnOk, OnErr, IsErrOf};
+ghost use Rattle.std.specs.Prelude.{◌≡◌, ◌≢◌, ℕ, ◌+◌, ◌^◌, ◌≤◌, [], true, None, length, OnOk, OnErr, IsErrOf};
 ghost use Rattle.std.specs.Io.KnownBytes.{Appends};
 ghost use Rattle.cow_model.specs.Env.{start};
-ghost use Rattle.cow_model.specs.Atoms.{FitsTexts, IsBareLayer};
-ghost use Rattle.cow_model.specs.Literals.{is_text};
-ghost use Rattle.cow_model.specs.Plain.{max_count};
-ghost use Rattle.cow_model.specs.Purse.{whole, RisesBy, RisesWithin};
+ghost use Rattle.cow_model.specs.Atoms.{IsBareLayer, IsBareBlock};
+ghost use Rattle.cow_model.specs.Purse.{whole, RisesBy};
 ghost use Rattle.cow_model.specs.Run.{run_one, text_of, bound, least_layer, least};
-ghost use Rattle.cow_model.specs.Sharing.{literals};
 ghost use Rattle.cow_model.specs.declared.statement.Statement.{out-Statement};
-ghost use Rattle.cow_eval.specs.Built.{is_built};
-ghost use Rattle.cow_eval.specs.Built as built;
-ghost use Rattle.cow_eval.specs.Entries.{most_units};
-ghost use Rattle.cow_eval.specs.Envs.{env_of, IsBare, Balances};
+ghost use Rattle.cow_eval.specs.Statements as built;
+ghost use Rattle.cow_eval.specs.Envs.{CanRun, Costs, env_of, IsBare, Balances};
+ghost use Rattle.cow_eval.specs.Statements.{IsRunnable};
 ghost use Rattle.cow_port.specs.Causes.{Rose};
 ghost use Rattle.cow_run.specs.Input.{max_bytes};
 ghost use Rattle.cow_run.specs.Output.{WritesFront};
-ghost use Rattle.cow_run.specs.Answer.{Answers, IsBareScript, stock_units, whole_text};
+ghost use Rattle.cow_run.specs.Answer.{Answers, stock_units, whole_text};
 ghost use Rattle.cow_run.specs.Runs.{IsRead, SaysUnits, StatementsAnswered, BytesAnswered};
 
 use crate::input::{ReadStop, read_all};
@@ -25,9 +21,11 @@ use crate::status::Status;
 use cow_cell::{Holder, Stock};
 use cow_eval::{Env, first_unbuilt, run_statement};
 use cow_item::Atom;
+use cow_kinds::Value;
 use cow_model::{NoMemory, Statement};
 use cow_port::{Failed, Sink, Source};
 use cow_script::{ParseFault, ParseStop, parse};
+use cow_value::Values;
 use std::alloc::Global;
 
 /// The units of a stock.
@@ -70,26 +68,27 @@ impl From<Failed> for RunStop {
 }
 
 // Runs a statement, and writes what it prints. `text` is room for that.
-fn run_and_write<Q: Stock, K: Sink>(
+fn run_and_write<V: Values<Q>, Q: Stock, K: Sink>(
     alloc: Global,
     statement: &Statement,
-    env: &mut Env<Atom<Q>, Q>,
+    env: &mut Env<V, Q>,
     text: &mut Vec<u8>,
     sink: &mut K,
     h: &mut Holder<Q>,
 ) -> Result<(), RunStop>
-    requires built { is_built (out-Statement statement.now) ≡ true }
-    requires texts { FitsTexts (out-Statement statement.now) }
-    requires few { literals (out-Statement statement.now) ≤ max_count }
-    requires spare { 2 ^ 40 ≤ h.old.spare }
+    requires statement { IsRunnable (out-Statement statement.now) }
+    requires ready { CanRun 1 env.old h.old }
+    ensures next { (n : ℕ) → CanRun (n + 1) env.old h.old → OnOk result (CanRun n env.new h.new) }
     ensures env { OnOk result (env_of env.new ≡ (run_one (env_of env.old) [] statement.now).env) }
-    ensures ok { OnOk result (Appends (K.held sink.old) (K.held sink.new) (run_one (env_of env.old) [] statement.now).text) }
-    ensures err { OnErr result (WritesFront (K.held sink.old) (K.held sink.new) (run_one (env_of env.old) [] statement.now).text) }
+    ensures ok { OnOk result (Appends (K.held sink.old) (K.held sink.new)
+        (run_one (env_of env.old) [] statement.now).text) }
+    ensures err { OnErr result (WritesFront (K.held sink.old) (K.held sink.new)
+        (run_one (env_of env.old) [] statement.now).text) }
     ensures most { env.new.allowed ≤ (run_one (env_of env.old) [] statement.now).env.allowed }
-    ensures copied { RisesWithin env.old.allowed env.new.allowed h.old h.new }
+    ensures costs { Costs 0 1 env.old env.new h.old h.new }
     ensures least { OnOk result (RisesBy (least_layer (env_of env.old) (out-Statement statement.now)) h.old h.new) }
-    ensures falls { h.old.spare ≤ h.new.spare + most_units }
-    ensures bare { IsBare is_text env.old.names → IsBareLayer is_text (out-Statement statement.now) → OnOk result (Balances is_text 0 env.old.names env.new.names h.old h.new) }
+    ensures bare { IsBare V.counted env.old.names → IsBareLayer V.counted (out-Statement statement.now) →
+        OnOk result (Balances V.counted 0 env.old.names env.new.names h.old h.new) }
     ensures fault { IsErrOf result RunStop.WriteFault → Rose (K.faults sink.old) (K.faults sink.new) }
     ensures later { K.faults sink.old ≤ K.faults sink.new }
 {
@@ -100,10 +99,10 @@ fn run_and_write<Q: Stock, K: Sink>(
 }
 
 // Runs statements in turn, and writes what each prints before the next one runs.
-fn run_statements<Q: Stock, K: Sink>(
+fn run_statements<V: Values<Q>, Q: Stock, K: Sink>(
     alloc: Global,
     statements: &[Statement],
-    env: &mut Env<Atom<Q>, Q>,
+    env: &mut Env<V, Q>,
     sink: &mut K,
     h: &mut Holder<Q>,
 ) -> Result<(), RunStop>
@@ -117,7 +116,8 @@ fn run_statements<Q: Stock, K: Sink>(
     ensures allowed { OnOk result (env.new.allowed ≡ bound statements.now []) }
     ensures most { h.new.copied ≤ bound statements.now [] }
     ensures least { OnOk result (RisesBy (least statements.now []) h.old h.new) }
-    ensures bare { IsBareScript statements.now → OnOk result (IsBare is_text env.new.names × (h.new.spare + length env.new.names ≡ stock_units)) }
+    ensures bare { IsBareBlock V.counted statements.now →
+        OnOk result (IsBare V.counted env.new.names × (h.new.spare + length env.new.names ≡ stock_units)) }
     ensures fault { IsErrOf result RunStop.WriteFault → Rose (K.faults sink.old) (K.faults sink.new) }
     ensures later { K.faults sink.old ≤ K.faults sink.new }
 {
@@ -128,8 +128,9 @@ fn run_statements<Q: Stock, K: Sink>(
     Ok(())
 }
 
-// Runs a script, writes the census where it is asked for, and ends the values of all names.
-fn run_script<Q: Stock, K: Sink>(
+// Runs a script over values of this type, writes the census where it is asked for, and ends the values of
+// all names.
+fn run_script<V: Values<Q>, Q: Stock, K: Sink>(
     alloc: Global,
     statements: &[Statement],
     census: bool,
@@ -139,15 +140,17 @@ fn run_script<Q: Stock, K: Sink>(
     requires built { built.unbuilt_line statements.now ≡ None }
     requires read { IsRead statements.now }
     requires fresh { h.old ≡ whole }
-    ensures ok { OnOk result (Appends (K.held sink.old) (K.held sink.new) (whole_text census h.new.copied statements.now)) }
-    ensures err { OnErr result (WritesFront (K.held sink.old) (K.held sink.new) (whole_text census h.new.copied statements.now)) }
+    ensures ok { OnOk result (Appends (K.held sink.old) (K.held sink.new)
+        (whole_text census h.new.copied statements.now)) }
+    ensures err { OnErr result (WritesFront (K.held sink.old) (K.held sink.new)
+        (whole_text census h.new.copied statements.now)) }
     ensures most { h.new.copied ≤ bound statements.now [] }
     ensures least { OnOk result (least statements.now [] ≤ h.new.copied) }
-    ensures bare { IsBareScript statements.now → OnOk result (h.new.spare ≡ stock_units) }
+    ensures bare { IsBareBlock V.counted statements.now → OnOk result (h.new.spare ≡ stock_units) }
     ensures fault { IsErrOf result RunStop.WriteFault → Rose (K.faults sink.old) (K.faults sink.new) }
     ensures later { K.faults sink.old ≤ K.faults sink.new }
 {
-    let mut env = Env::<Atom<Q>, Q>::new(alloc);
+    let mut env = Env::<V, Q>::new(alloc);
     run_statements(alloc, statements, &mut env, sink, h)?;
     write_census(sink, census, h.copied(), env.allowed())?;
     env.end(h);
@@ -167,7 +170,7 @@ fn counted<Q: Stock>(h: &Holder<Q>) -> Status
     }
 }
 
-// Runs the statements of a script, unless one of them isn't built.
+// Runs the statements of a script over the values of all kinds, unless one of them isn't built.
 fn run_built<Q: Stock, K: Sink>(
     alloc: Global,
     statements: &[Statement],
@@ -184,7 +187,7 @@ fn run_built<Q: Stock, K: Sink>(
         write_not_built(sink, line);
         return Status::NotYet { line };
     }
-    match run_script(alloc, statements, census, sink, h) {
+    match run_script::<Value<Atom<Q>, Q>, Q, K>(alloc, statements, census, sink, h) {
         Ok(()) => counted(h),
         Err(RunStop::WriteFault) => Status::WriteFault,
         Err(RunStop::NoMemory) => Status::NoMemory,

@@ -11,7 +11,7 @@ pub returns-in_err-write_all-clause-err : goal.returns-in_err-write_all-clause-e
 returns-in_err-write_all-clause-err g c =
     let p = err_from_is_err_and c.from_residual-in_err-write_all.result c.from_residual-in_err-write_all.ensures.1 in
     let held = g.K.Sink.held in
-    let same = run_is_step (env_of c.args.env.now) (out-Statement c.args.statement.now) c.requires.built in
+    let same = run_is_step (env_of c.args.env.now) (out-Statement c.args.statement.now) c.requires.statement.built in
     let added = ap (λ z. z ++ (run_one (env_of c.args.env.now) [] c.args.statement.now).text) c.clear.ensures.items in
-    let whole = c.in_ok-run_statement.ensures.text ∙ (ap (λ o. c.clear.new.self.items ++ o.text) (sym same) ∙ added) in
+    let whole = c.in_ok-run_statement.ensures.step.text ∙ (ap (λ o. c.clear.new.self.items ++ o.text) (sym same) ∙ added) in
     rw p.1 (subst (WritesFront (held c.args.sink.now) (held c.write_all.new.sink)) (c.deref.ensures.value ∙ whole) c.in_err-write_all.ensures.err)

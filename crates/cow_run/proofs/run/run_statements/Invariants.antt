@@ -11,4 +11,4 @@ invariant-loop-statement g l =
     let faults = g.K.Sink.faults in
     (faults l.fn.sink ≤ faults l.sink)
     × Stands (held l.fn.sink) (held l.sink) l.statements (drop l.statement-index l.statements) (env_of l.env)
-    × Counts l.statements (drop l.statement-index l.statements) l.env l.h
+    × Counts g.V.Shown.counted l.statements (drop l.statement-index l.statements) l.env l.h
