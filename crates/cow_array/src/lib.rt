@@ -25,5 +25,3 @@ mod slice;
 pub use array::Array;
 pub use slice::ArraySlice;
 
-#[cfg(test)]
-mod tests;

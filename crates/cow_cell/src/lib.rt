@@ -64,5 +64,3 @@ pub use counted::Counted;
 pub use holder::Holder;
 pub use units::{Opening, Stock};
 
-#[cfg(test)]
-mod tests;

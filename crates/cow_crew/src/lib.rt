@@ -57,5 +57,3 @@ pub use crew::run_all;
 pub use job::{Gate, Job, OpenGate};
 pub use pass::Pass;
 
-#[cfg(test)]
-mod tests;

@@ -23,8 +23,6 @@ mod atom;
 mod hash;
 mod item;
 mod numbers;
-#[cfg(test)]
-mod tests;
 mod text;
 
 pub use atom::Atom;

@@ -27,5 +27,3 @@ mod value;
 pub use element::Element;
 pub use value::Value;
 
-#[cfg(test)]
-mod tests;

@@ -54,7 +54,3 @@ mod words;
 pub use cow_model::ParseFault;
 pub use script::{ParseStop, Script, parse};
 
-#[cfg(test)]
-mod odd_lines;
-#[cfg(test)]
-mod tests;
