@@ -6,7 +6,7 @@ use Rattle.cow_model.specs.Fronts.{IsFrontOf}
 use Rattle.cow_model.specs.Atoms.{IsBareBlock}
 use Rattle.cow_model.specs.Literals.{is_text}
 use Rattle.cow_model.specs.Parse.{script_of}
-use Rattle.cow_model.specs.Purse.{Purse}
+use Rattle.cow_model.specs.Purse.{Purse, whole}
 use Rattle.cow_model.specs.Run.{text_of, bound, least}
 use Rattle.cow_model.specs.declared.fault.ParseFault.{ParseFault}
 use Rattle.cow_model.specs.declared.fault.ParseFault.TheVariants as fault
@@ -91,12 +91,12 @@ Leaks spare stock h = (spare ≡ h.spare) × (stock ≡ stock_units) × (spare �
 abbrev pub Says : (ended sink_failed : Type 0) → Bool → Text → Text → Purse → Status → Type 0
 Says ended sink_failed census read written h Ok = OfScript ended read (HasRun census written h) × (h.spare ≡ stock_units)
 Says ended sink_failed census read written h (Leak spare stock) = OfScript ended read (HasRunCounted census written h) × Leaks spare stock h
-Says ended sink_failed census read written h Usage = (read ≡ []) × IsLine sink_failed written usage_text
-Says ended sink_failed census read written h (Script why) = IsFault ended read why × IsLine sink_failed written (fault_text why)
-Says ended sink_failed census read written h ReadFault = (length read ≤ max_bytes) × (written ≡ [])
+Says ended sink_failed census read written h Usage = (read ≡ []) × IsLine sink_failed written usage_text × (h ≡ whole)
+Says ended sink_failed census read written h (Script why) = IsFault ended read why × IsLine sink_failed written (fault_text why) × (h ≡ whole)
+Says ended sink_failed census read written h ReadFault = (length read ≤ max_bytes) × (written ≡ []) × (h ≡ whole)
 Says ended sink_failed census read written h WriteFault = OfScript ended read (HasRunInPart census written h)
-Says ended sink_failed census read written h NoMemory = ((written ≡ []) × (h.copied ≡ 0)) ⊎ OfScript ended read (HasRunInPart census written h)
-Says ended sink_failed census read written h (NotYet line) = IsNotBuilt ended read line × IsLine sink_failed written (not_built_text line)
+Says ended sink_failed census read written h NoMemory = ((written ≡ []) × (h ≡ whole)) ⊎ OfScript ended read (HasRunInPart census written h)
+Says ended sink_failed census read written h (NotYet line) = IsNotBuilt ended read line × IsLine sink_failed written (not_built_text line) × (h ≡ whole)
 
 -- what was read of the source and written to the sink is what the status says
 pub record Answers (left_before left_after held_before held_after : Option Text) (sink_failed : Type 0) (census : Bool) (h : Purse) (status : Status) : Type 0 where

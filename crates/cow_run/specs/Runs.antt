@@ -4,7 +4,7 @@ use Rattle.std.specs.Io.KnownBytes.{Appends}
 use Rattle.cow_model.specs.Atoms.{FitsTexts}
 use Rattle.cow_model.specs.Lexis.{Text}
 use Rattle.cow_model.specs.Plain.{max_count}
-use Rattle.cow_model.specs.Purse.{Purse}
+use Rattle.cow_model.specs.Purse.{Purse, whole}
 use Rattle.cow_model.specs.Sharing.{literals}
 use Rattle.cow_model.specs.declared.statement.Statement.{Statement, out-Statement}
 use Rattle.cow_eval.specs.Statements.{unbuilt_line}
@@ -36,7 +36,7 @@ SaysOf sink_failed census ss written h Ok = OfBuilt ss (HasRun census written h)
 SaysOf sink_failed census ss written h (Leak spare stock) = OfBuilt ss (HasRunCounted census written h) × Leaks spare stock h
 SaysOf sink_failed census ss written h WriteFault = OfBuilt ss (HasRunInPart census written h)
 SaysOf sink_failed census ss written h NoMemory = OfBuilt ss (HasRunInPart census written h)
-SaysOf sink_failed census ss written h (NotYet line) = (unbuilt_line ss ≡ Some line) × IsLine sink_failed written (not_built_text line)
+SaysOf sink_failed census ss written h (NotYet line) = (unbuilt_line ss ≡ Some line) × IsLine sink_failed written (not_built_text line) × (h ≡ whole)
 SaysOf sink_failed census ss written h status = ⊥
 
 -- what was written to the sink of a run of these statements is what the status says

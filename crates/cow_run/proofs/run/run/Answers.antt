@@ -13,5 +13,5 @@ returns-in-Err-TooLong-clause-answer g c =
       written = line.0;
       consumed = much.1;
       appended = line.1;
-      says = (inl (refl, much.2), line.2);
+      says = (inl (refl, much.2), line.2, c.requires.fresh);
     }
