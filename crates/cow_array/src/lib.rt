@@ -24,4 +24,3 @@ mod slice;
 
 pub use array::Array;
 pub use slice::ArraySlice;
-

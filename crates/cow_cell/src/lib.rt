@@ -63,4 +63,3 @@ mod units;
 pub use counted::Counted;
 pub use holder::Holder;
 pub use units::{Opening, Stock};
-

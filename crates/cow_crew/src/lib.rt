@@ -56,4 +56,3 @@ pub use board::Board;
 pub use crew::run_all;
 pub use job::{Gate, Job, OpenGate};
 pub use pass::Pass;
-

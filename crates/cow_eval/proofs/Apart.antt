@@ -55,21 +55,29 @@ module _ (p : Literal → Bool) (s : Layer) (at by : ℕ) (before xs ys : List S
   -- an entry in the front part changed by the first one of the back part
   pub by-later : length xs ≡ by → at < length xs → e ≡ get_or xs at e → f ≡ get_or ys 0 f → ChangesBy p s at by before (set xs at e' ++ ys) h h' r
   by-later len inside is is' = record {
-    old = e; other = f; new = e';
+    old = e;
+    other = f;
+    new = e';
     old_is = front-read xs ys before at e whole inside is;
     other_is = seam-read xs ys before by f whole len is';
     names = sym (set-append_left xs ys at e' inside) ∙ ap (λ l. set l at e') (sym whole);
-    kept = kept'; does = does; costs = costs;
+    kept = kept';
+    does = does;
+    costs = costs;
   }
 
   -- the first entry of the back part changed by one of the front part
   pub by-earlier : length xs ≡ at → by < length xs → e ≡ get_or ys 0 e → f ≡ get_or xs by f → ChangesBy p s at by before (xs ++ set ys 0 e') h h' r
   by-earlier len inside is is' = record {
-    old = e; other = f; new = e';
+    old = e;
+    other = f;
+    new = e';
     old_is = seam-read xs ys before at e whole len is;
     other_is = front-read xs ys before by f whole inside is';
     names = sym (set-seam xs ys e') ∙ (ap (λ k. set (xs ++ ys) k e') len ∙ ap (λ l. set l at e') (sym whole));
-    kept = kept'; does = does; costs = costs;
+    kept = kept';
+    does = does;
+    costs = costs;
   }
 
 -- what two reads of one place give looks the same
@@ -203,7 +211,9 @@ module _ (p : Literal → Bool) (before : SeenEnv) (name other : Text) (s : Laye
   pub by-failed : {x : NoMemory} → r ≡ Err x → (allowed : ℕ) → allowed ≡ before.allowed + cost (entry_of e) → (said : Text) (r' : Result ⊤ NoMemory) → IsErr r' →
       Does p ⊤ 0 1 (turned_by (env_of before) name other s) (said ≡ said) before (record { names = set before.names at e'; room = before.room; allowed = allowed }) said said h h' r'
   by-failed failed allowed sum said (Err y) is-err = record {
-    env = _; text = _; kept = refl;
+    env = _;
+    text = _;
+    kept = refl;
     most = rw out (most-tried before name place is cost flag run sum (untold r failed does.free));
     costs = costs-tried _ answer literal-free sum;
     bare = λ names none. _;

@@ -96,14 +96,20 @@ module _ {p : Literal → Bool} {literals : ℕ} {out : Outcome} {before after :
   -- what brings nothing in under one condition doesn't under a stronger one
   pub brings-less : (B C : Type 0) {n : ℕ} {stays : Type 0} {h h' : Purse} → (C → B) → Does p B literals n out stays before after said said' h h' r → Does p C literals n out stays before after said said' h h' r
   brings-less B C less did = record {
-    env = did.env; text = did.text; kept = did.kept; most = did.most; costs = did.costs;
+    env = did.env;
+    text = did.text;
+    kept = did.kept;
+    most = did.most;
+    costs = did.costs;
     bare = λ names none. did.bare names (less none);
   }
 
   -- a statement that only reads
   pub reads-only : (B : Type 0) (h : Purse) → before.allowed ≤ out.env.allowed → Reads out before after said said' r → Does p B literals 1 out (said' ≡ said) before after said said' h h r
   reads-only B h less did = record {
-    env = did.env; text = did.text; kept = did.kept;
+    env = did.env;
+    text = did.text;
+    kept = did.kept;
     most = always-err _ r (omega (arith, less, did.allowed));
     costs = record { copied = record { copied = omega (arith, did.allowed); kept = omega arith }; falls = omega arith };
     bare = λ names none. always _ r (record {

@@ -101,8 +101,10 @@ impl<V: Values<Q>, Q: Stock> Env<V, Q> {
         h: &mut Holder<Q>,
     ) -> Result<(), NoMemory>
         requires kept { IsKept (record { name = name.now; seen = V.seen value; flag = alone }) }
-        ensures ok { OnOk result (self.new ≡ record self.old { names = self.old.names
-            ++ (record { name = name.now; seen = V.seen value; flag = alone }) ∷ [] }) }
+        ensures ok { OnOk result (self.new ≡ record self.old {
+          names = self.old.names
+              ++ (record { name = name.now; seen = V.seen value; flag = alone }) ∷ [];
+        }) }
         ensures err { OnErr result (self.new ≡ self.old) }
         ensures copied { h.new.copied ≡ h.old.copied }
         ensures falls { h.old.spare ≤ h.new.spare }

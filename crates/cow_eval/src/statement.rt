@@ -134,10 +134,7 @@ pub fn discard<V: Values<Q>, Q: Stock>(
 }
 
 // Appends the printed form and a newline, whole or not at all.
-fn put_line<V: Values<Q>, Q: Stock>(
-    entry: &Entry<V, Q>,
-    text: &mut Vec<u8>,
-) -> Result<(), NoMemory>
+fn put_line<V: Values<Q>, Q: Stock>(entry: &Entry<V, Q>, text: &mut Vec<u8>) -> Result<(), NoMemory>
     ensures ok { OnOk result (text.new.items ≡ text.old.items ++ line (plain_text entry.now.seen.value)) }
     ensures err { OnErr result (text.new.items ≡ text.old.items) }
 {

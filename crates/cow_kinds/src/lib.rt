@@ -26,4 +26,3 @@ mod value;
 
 pub use element::Element;
 pub use value::Value;
-

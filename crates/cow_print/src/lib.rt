@@ -20,4 +20,3 @@ mod printed;
 
 pub use atoms::{put_atom, put_list, put_pairs};
 pub use printed::{Printed, put_items, whole_or_none};
-

@@ -53,4 +53,3 @@ mod words;
 
 pub use cow_model::ParseFault;
 pub use script::{ParseStop, Script, parse};
-

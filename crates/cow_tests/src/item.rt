@@ -4,8 +4,8 @@ ghost use Rattle.cow_tests.specs.Parts.{plain_of_part, part_hash};
 ghost use Rattle.cow_model.specs.declared.plain.Literal.TheVariants.{Int};
 ghost use Rattle.std.proofs.Common.{rules};
 
-use cow_item::{Atom, Item, Key, Text};
 use cow_cell::{Counted, Holder, Opening, Stock};
+use cow_item::{Atom, Item, Key, Text};
 use cow_model::{Bytes, Literal};
 use std::alloc::Global;
 use std::cmp::Ordering;

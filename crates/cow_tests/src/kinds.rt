@@ -6,9 +6,9 @@ ghost use Rattle.cow_model.specs.Plain as plain;
 ghost use Rattle.cow_model.specs.Sharing.{literals};
 ghost use Rattle.cow_model.specs.declared.statement.Statement.{out-Statement};
 
-use cow_kinds::Value;
 use cow_cell::{Holder, Opening, Stock};
 use cow_item::Atom;
+use cow_kinds::Value;
 use cow_model::{Kind, Literal, Name, NoMemory, Refusal, Side, Statement};
 use cow_value::{Collection, Values};
 use sqlite_items::Items;

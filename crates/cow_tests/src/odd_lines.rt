@@ -1,7 +1,7 @@
 // Faulty and odd lines, each with what the language says of it: `ok` and the number of statements, or
 // the first faulty line and what is wrong with it. Other rows show what was read.
-use cow_script::{ParseStop, parse};
 use cow_model::{Capture, Kind, Literal, Name, ParseFault, Side, Statement, TaskBlock, Verb};
+use cow_script::{ParseStop, parse};
 use std::alloc::Global;
 use std::test::Fail;
 

@@ -1,5 +1,7 @@
 // Sources and sinks: what they give, take and count.
-use cow_port::{Failed, MemorySink, MemorySource, PlainSource, ReaderSource, Sink, Source, WriterSink};
+use cow_port::{
+    Failed, MemorySink, MemorySource, PlainSource, ReaderSource, Sink, Source, WriterSink,
+};
 use std::io;
 use std::io::{Read, Write};
 use std::test::Fail;

@@ -1,8 +1,8 @@
 ghost use Rattle.cow_cell.specs.Opens.{Opens};
 
-use cow_print::{put_atom, put_list, put_pairs};
 use cow_cell::{Holder, Opening, Stock};
 use cow_item::{Atom, Text};
+use cow_print::{put_atom, put_list, put_pairs};
 use std::alloc::Global;
 use std::marker::Brand;
 use std::test::Fail;

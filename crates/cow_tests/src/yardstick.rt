@@ -1,6 +1,6 @@
 // Worked rows: what the definitions say of them, run. ` / ` stands for the end of a line.
-use cow_plain::{Told, run_script};
 use cow_model::{ParseFault, Shape};
+use cow_plain::{Told, run_script};
 use std::alloc::Global;
 use std::test::Fail;
 
