@@ -16,7 +16,6 @@ use Rattle.cow_model.specs.Step.{becomes, with_entry, with_found, as_changed}
 use Rattle.cow_model.specs.Turns.{turn_by_of, added_of, alone_after}
 use Rattle.cow_model.specs.declared.memory.NoMemory.{NoMemory}
 use Rattle.cow_model.specs.declared.outcome.Entry.{Entry}
-use Rattle.cow_model.specs.declared.outcome.Outcome.{Outcome}
 use Rattle.cow_model.specs.declared.plain.Literal.{Literal}
 use Rattle.cow_model.specs.declared.refusal.Refusal.{Refusal}
 use Rattle.cow_model.specs.declared.value.Plain.{Plain}
@@ -29,7 +28,7 @@ use Rattle.std.proofs.lemmas.List.{append-nil}
 use Rattle.cow_eval.proofs.BareNames.{changed-bare}
 use Rattle.cow_eval.proofs.Costs.{always-err, most-tried, most-kept, costs-tried, costs-kept}
 use Rattle.cow_eval.proofs.Results.{always}
-use Rattle.cow_eval.proofs.Steps.{Did, with_change, changed, kept}
+use Rattle.cow_eval.proofs.Steps.{with_change, changed, kept}
 
 -- a list at the seam of its parts: what is put there stands first in the back part
 pub set-seam : (xs ys : List SeenEntry) (y : SeenEntry) → set (xs ++ ys) (length xs) y ≡ xs ++ set ys 0 y

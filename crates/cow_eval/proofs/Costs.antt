@@ -1,5 +1,5 @@
 -- What a change of the value of a name allows and costs.
-use Rattle.std.proofs.Common.{◌≡◌, ℕ, ◌+◌, ◌≤◌, Bool, true, false, map, get_or, Some, Ok, Err, Result, refl, arith, subst}
+use Rattle.std.proofs.Common.{◌≡◌, ℕ, ◌+◌, ◌≤◌, Bool, true, false, map, get_or, Some, Ok, Err, Result, refl, arith}
 use Rattle.std.specs.Prelude.{OnErr, ⊤}
 use Rattle.cow_model.specs.Env as env
 use Rattle.cow_model.specs.Lexis.{Text}

@@ -1,11 +1,11 @@
 -- The flag and the cost of an entry after a change of its value, for a row of the table: no kind is named.
 use Rattle.std.proofs.Common.{◌≡◌, ℕ, ◌+◌, ◌*◌, ◌≤◌, ◌⊎◌, inl, inr, Bool, true, false, not, ◌&&◌, Result, Ok, Err, refl, ap, sym, ◌∙◌, arith, subst, if◌then◌else◌}
-use Rattle.std.specs.Prelude.{⊤, IsOk, IfOk, OnOk, OnErr}
+use Rattle.std.specs.Prelude.{⊤, IsOk, IfOk, OnOk}
 use Rattle.cow_model.specs.Lexis.{Text}
 use Rattle.cow_model.specs.Operation.{Answer}
-use Rattle.cow_model.specs.Plain.{count, size, is_tree, max_count, same_plain}
+use Rattle.cow_model.specs.Plain.{count, is_tree, max_count, same_plain}
 use Rattle.cow_model.specs.Purse.{Purse}
-use Rattle.cow_model.specs.Sharing.{Layer, both_cost_of}
+use Rattle.cow_model.specs.Sharing.{both_cost_of}
 use Rattle.cow_model.specs.declared.memory.NoMemory.{NoMemory}
 use Rattle.cow_model.specs.declared.outcome.Entry.{Entry}
 use Rattle.cow_model.specs.declared.plain.Literal.{Literal}
@@ -15,8 +15,8 @@ use Rattle.cow_model.specs.Answers.{verdict, is_refused, value_after}
 use Rattle.cow_model.specs.Flat.{need}
 use Rattle.cow_model.specs.Units.{units_of, nodes_of}
 use Rattle.cow_value.specs.Calls as value
-use Rattle.cow_value.specs.Seen.{Seen, Brings, units, copied_units}
-use Rattle.cow_model.specs.Turns.{Turn, turn_of, tells_of, TellsParts, alone_after}
+use Rattle.cow_value.specs.Seen.{Seen, Brings}
+use Rattle.cow_model.specs.Turns.{Turn, tells_of, TellsParts, alone_after}
 use Rattle.cow_model.proofs.Costs.{both-most}
 use Rattle.cow_model.proofs.Same.{same-self}
 use Rattle.cow_model.proofs.Counts.{size-count, small-after}

@@ -1,22 +1,18 @@
 -- A change of a value by itself: a second handle is lent for it, and the flag is false afterwards.
-use Rattle.std.proofs.Common.{◌≡◌, ℕ, ◌+◌, ◌*◌, ◌≤◌, Bool, true, false, [], Option, Some, None, Result, Ok, Err, refl, ap, sym, ◌∙◌, arith}
+use Rattle.std.proofs.Common.{◌≡◌, ◌+◌, ◌≤◌, Bool, false, [], Some, Result, Ok, Err, refl, ap, arith}
 use Rattle.std.specs.Prelude.{⊤, IsOk}
 use Rattle.std.proofs.lemmas.Grind.{common_steps}
 use Rattle.cow_model.proofs.Bare.{turn_by-bare, after-call}
 use Rattle.cow_model.proofs.Costs.{added-most}
 use Rattle.cow_model.proofs.Counts.{size-count, small-after, turn_by-small}
-use Rattle.cow_model.specs.Answers.{refusal_in, value_after}
-use Rattle.cow_model.specs.Flat.{need}
-use Rattle.cow_model.specs.Lexis.{Text}
+use Rattle.cow_model.specs.Answers.{refusal_in}
 use Rattle.cow_model.specs.Operation.{Answer}
-use Rattle.cow_model.specs.Plain.{count, max_count}
 use Rattle.cow_model.specs.Purse.{Purse, Moves, less, more}
 use Rattle.cow_model.specs.Sharing.{Layer, both_cost_of}
 use Rattle.cow_model.specs.Turns.{turn_by_of, added_of}
 use Rattle.cow_model.specs.declared.memory.NoMemory.{NoMemory}
 use Rattle.cow_model.specs.declared.plain.Literal.{Literal}
 use Rattle.cow_model.specs.declared.refusal.Refusal.{Refusal}
-use Rattle.cow_model.specs.declared.value.Plain.{Plain}
 use Rattle.cow_value.specs.Calls as value
 use Rattle.cow_value.specs.Seen.{Seen, shared, units, given_by}
 use Rattle.cow_eval.specs.Entries.{SeenEntry, IsKept, Changes, EntryCosts, allowed_for}

@@ -1,16 +1,16 @@
 -- After a statement one fewer may be run.
-use Rattle.std.proofs.Common.{◌≡◌, ℕ, ◌+◌, ◌*◌, ◌≤◌, ◌^◌, suc, false, [], List, map, ap, sym, ◌∙◌, arith, subst, Result}
+use Rattle.std.proofs.Common.{◌≡◌, ℕ, ◌+◌, ◌*◌, ◌≤◌, ◌^◌, suc, [], ap, sym, arith, subst, Result}
 use Rattle.std.specs.Prelude.{⊤, All, OnOk}
 use Rattle.std.proofs.lemmas.List.Elements.{All-map}
 use Rattle.cow_model.proofs.Rises.{step-rises}
 use Rattle.cow_model.proofs.StepBounds.{Small, Near, step-near}
-use Rattle.cow_model.specs.Plain.{count, stop, max_count}
+use Rattle.cow_model.specs.Plain.{stop, max_count}
 use Rattle.cow_model.specs.Purse.{Purse}
 use Rattle.cow_model.specs.Sharing.{Layer, literals}
 use Rattle.cow_model.specs.Step.{step}
 use Rattle.cow_model.specs.declared.memory.NoMemory.{NoMemory}
 use Rattle.cow_model.specs.declared.outcome.Entry.{Entry}
-use Rattle.cow_eval.specs.Entries.{SeenEntry, IsKept, entry_of, most_units}
+use Rattle.cow_eval.specs.Entries.{IsKept, entry_of, most_units}
 use Rattle.cow_eval.specs.Envs.{SeenEnv, CanRun, env_of}
 use Rattle.cow_eval.proofs.BareNames.{All-unmap}
 use Rattle.cow_eval.proofs.Results.{on-ok}

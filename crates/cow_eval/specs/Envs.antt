@@ -1,5 +1,5 @@
 -- What contracts see of an environment over counted values, and what statements do to it.
-use Rattle.std.specs.Prelude.{◌≡◌, ℕ, ◌+◌, ◌*◌, ◌<◌, ◌≤◌, ◌^◌, ◌++◌, Bool, List, [], All, length, map, get_or, set, ⊤, Result, OnOk, OnErr}
+use Rattle.std.specs.Prelude.{◌≡◌, ℕ, ◌+◌, ◌*◌, ◌≤◌, ◌^◌, ◌++◌, Bool, List, [], All, length, map, get_or, set, ⊤, Result, OnOk, OnErr}
 use Rattle.cow_model.specs.Lexis.{Text}
 use Rattle.cow_model.specs.Plain.{stop}
 use Rattle.cow_model.specs.Purse.{Purse, RisesWithin}

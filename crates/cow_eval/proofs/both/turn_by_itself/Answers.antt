@@ -1,4 +1,4 @@
-use Rattle.std.proofs.Common.{◌+◌, ◌≡◌, true, false, Ok, refl, ap, sym, ◌∙◌, arith}
+use Rattle.std.proofs.Common.{◌+◌, true, false, Ok, ap, sym, ◌∙◌}
 use Rattle.std.proofs.lemmas.List.Elements.{All-set}
 use Rattle.cow_model.specs.Sharing.{both_cost_of}
 use Rattle.cow_model.specs.declared.statement.Statement.{out-Statement}

@@ -1,5 +1,3 @@
-use Rattle.cow_model.specs.Atoms.{IsBareStep, is_tree_kind}
-use Rattle.std.proofs.Common.{◌≡◌, false, count_by}
 use Rattle.cow_model.specs.declared.statement.Statement as statement
 use Rattle.cow_model.specs.declared.statement.Statement.{out-Statement}
 use Rattle.cow_eval.specs.Envs.{env_of}

@@ -1,6 +1,5 @@
-use Rattle.std.proofs.Common.{rules, ◌≡◌, arith}
+use Rattle.std.proofs.Common.{rules, ◌≡◌}
 use Rattle.std.specs.Prelude.{⊤}
-use Rattle.std.proofs.lemmas.Grind.{common_steps}
 use Rattle.cow_model.specs.Step as spec
 use Rattle.cow_model.specs.declared.statement.Statement.{out-Statement}
 use Rattle.cow_eval.specs.Envs.{env_of}

@@ -1,5 +1,4 @@
-use Rattle.std.proofs.Common.{arith, refl, sym, ◌∙◌}
-use Rattle.std.proofs.lemmas.Grind.{common_steps}
+use Rattle.std.proofs.Common.{refl, sym, ◌∙◌}
 use Rattle.cow_model.specs.Changes.{query_of}
 use Rattle.cow_model.specs.declared.statement.Statement.{out-Statement}
 use Rattle.cow_eval.specs.Envs.{SeenEnv}

@@ -1,8 +1,7 @@
 use Rattle.std.proofs.Common.{◌+◌, refl, ap, sym, ◌∙◌, arith}
 use Rattle.std.proofs.lemmas.Grind.{common_steps}
-use Rattle.cow_model.specs.declared.outcome.Entry.{Entry}
 use Rattle.cow_model.specs.declared.statement.Statement.{out-Statement}
-use Rattle.cow_model.specs.Turns.{Turn, turn_of, alone_after}
+use Rattle.cow_model.specs.Turns.{turn_of, alone_after}
 use Rattle.std.proofs.lemmas.List.Elements.{All-set}
 use Rattle.cow_eval.specs.Entries.{IsKept}
 use Rattle.cow_eval.specs.Envs.{SeenEnv}

@@ -3,7 +3,7 @@ use Rattle.cow_model.specs.declared.statement.Statement.{out-Statement}
 use Rattle.cow_value.specs.Seen.{literals_of}
 use Rattle.cow_model.specs.Turns.{turn_of}
 use Rattle.cow_model.proofs.Costs.{cost-kept}
-use Rattle.cow_model.proofs.Counts.{turn-small, small-after}
+use Rattle.cow_model.proofs.Counts.{turn-small}
 use Rattle.cow_model.proofs.Bare.{turn-bare, after-call}
 use Rattle.cow_eval.specs.Entries.{SeenEntry}
 use Rattle.cow_eval.proofs.Flags.{alone-kept, told-kept, alone-changes, told-changes, entry-costs}

@@ -1,6 +1,5 @@
 use Rattle.std.proofs.Common.{ap, sym, ◌∙◌}
 use Rattle.cow_model.specs.declared.outcome.Environment.{Environment}
-use Rattle.cow_eval.specs.Entries.{SeenEntry}
 use Rattle.cow_eval.proofs.BareNames.{given-bare}
 use Rattle.cow_eval.proofs.Places.{give-there}
 use Rattle.cow_eval.proofs.env.Env.give.Goals as goal
