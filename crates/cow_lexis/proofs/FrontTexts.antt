@@ -14,17 +14,9 @@ use Rattle.cow_lexis.specs.Cuts.{CutAtEscape, and_front, behind_token, cut_len, 
 
 -- ---- runs
 
--- what is read so far, and the bytes to come, are the whole text
-pub record FrontSoFar (content rest whole : Text) : Type 0 where
-  pub front : front_of false whole ≡ and_front content (front_of false rest)
-
 started : (front : Option (Text × Text)) → front ≡ and_front [] front
 started None = refl
 started (Some f) = refl
-
--- nothing is read yet
-pub front_start : (whole : Text) → FrontSoFar [] whole whole
-front_start whole = record { front = started (front_of false whole) }
 
 and_and : (x y : Text) (front : Option (Text × Text)) → and_front x (and_front y front) ≡ and_front (x ++ y) front
 and_and x y None = refl
@@ -52,26 +44,21 @@ front_run (b ∷ bs) more bare =
     plain_byte (eqb b 34) (eqb b 92) _ _ _ here ∙ (ap (and_front (b ∷ [])) behind ∙ and_and (b ∷ []) bs (front_of false more))
 
 -- a text without them has no closing quote
-front_bare : (text : Text) → list_any is_escapable text ≡ false → front_of false text ≡ None
+pub front_bare : (text : Text) → list_any is_escapable text ≡ false → front_of false text ≡ None
 front_bare [] bare = refl
 front_bare (b ∷ bs) bare =
     let here = first_bare (is_escapable b) (list_any is_escapable bs) bare in
     let behind = front_bare bs (others_bare (is_escapable b) (list_any is_escapable bs) bare) in
     plain_byte (eqb b 34) (eqb b 92) _ _ _ here ∙ ap (and_front (b ∷ [])) behind
 
--- no byte of the rest is a `"` or a `\`
-pub front_open : (content rest whole : Text) → FrontSoFar content rest whole → list_any is_escapable rest ≡ false → front_of false whole ≡ None
-front_open content rest whole so_far bare = so_far.front ∙ ap (and_front content) (front_bare rest bare)
-
--- the run up to the next of them is read
-run_read : (content rest whole run : Text) (byte : ℕ) (after : Text) → FrontSoFar content rest whole → CutAtEscape rest run byte after → front_of false whole ≡ and_front (content ++ run) (front_of false (byte ∷ after))
-run_read content rest whole run byte after so_far cut =
-    so_far.front ∙ (ap (λ t. and_front content (front_of false t)) cut.parts ∙ (ap (and_front content) (front_run run (byte ∷ after) cut.bare) ∙ and_and content run (front_of false (byte ∷ after))))
+-- a text up to its first `"` or `\`
+run_read : (text run : Text) (byte : ℕ) (after : Text) → CutAtEscape text run byte after → front_of false text ≡ and_front run (front_of false (byte ∷ after))
+run_read text run byte after cut = ap (front_of false) cut.parts ∙ front_run run (byte ∷ after) cut.bare
 
 -- it is the closing quote
-pub front_closed : (content rest whole run : Text) (byte : ℕ) (after : Text) → FrontSoFar content rest whole → CutAtEscape rest run byte after → byte ≡ 34 → front_of false whole ≡ Some (content ++ run, after)
-front_closed content rest whole run byte after so_far cut is =
-    run_read content rest whole run byte after so_far cut ∙ (ap (λ b. and_front (content ++ run) (front_of false (b ∷ after))) is ∙ ap (λ t. Some (t, after)) (append-nil (content ++ run)))
+pub front_closed : (text run : Text) (byte : ℕ) (after : Text) → CutAtEscape text run byte after → byte ≡ 34 → front_of false text ≡ Some (run, after)
+front_closed text run byte after cut is =
+    run_read text run byte after cut ∙ (ap (λ b. and_front run (front_of false (b ∷ after))) is ∙ ap (λ t. Some (t, after)) (append-nil run))
 
 not_byte : (b n : ℕ) → b ≢ n → eqb b n ≡ false
 not_byte b n apart = grind arith
@@ -81,22 +68,49 @@ slash true s is other = cc
 slash false s is other = is
 
 -- it is a `\`
-slash_read : (content rest whole run : Text) (byte : ℕ) (after : Text) → FrontSoFar content rest whole → CutAtEscape rest run byte after → byte ≢ 34 → front_of false whole ≡ and_front (content ++ run) (front_of true after)
-slash_read content rest whole run byte after so_far cut other =
+pub front_slash : (text run : Text) (byte : ℕ) (after : Text) → CutAtEscape text run byte after → byte ≢ 34 → front_of false text ≡ and_front run (front_of true after)
+front_slash text run byte after cut other =
     let no_quote = not_byte byte 34 other in
-    run_read content rest whole run byte after so_far cut
-    ∙ ap (and_front (content ++ run)) (rw (no_quote, slash (eqb byte 34) (eqb byte 92) cut.escape no_quote) refl)
+    run_read text run byte after cut ∙ ap (and_front run) (rw (no_quote, slash (eqb byte 34) (eqb byte 92) cut.escape no_quote) refl)
 
--- before a byte that it may stand before
-pub front_more : (content rest whole run : Text) (byte : ℕ) (after : Text) (next : ℕ) (more : Text) → FrontSoFar content rest whole → CutAtEscape rest run byte after → byte ≢ 34 → front_of true after ≡ and_front (next ∷ []) (front_of false more) → FrontSoFar ((content ++ run) ++ next ∷ []) more whole
-front_more content rest whole run byte after next more so_far cut other is = record {
-  front = slash_read content rest whole run byte after so_far cut other ∙ (ap (and_front (content ++ run)) is ∙ and_and (content ++ run) (next ∷ []) (front_of false more));
+-- ---- behind a `\`
+
+-- what is said of a text, by its content so far and what stands behind a `\`
+pub record EscapedSoFar (said : Option (Text × Text)) (content rest : Text) : Type 0 where
+  pub front : said ≡ and_front content (front_of true rest)
+
+-- nothing is read yet
+pub escaped_start : (content whole : Text) → EscapedSoFar (and_front content (front_of true whole)) content whole
+escaped_start content whole = record { front = refl }
+
+-- a byte that may stand there, and the run behind it
+escaped_run : (said : Option (Text × Text)) (content rest : Text) (byte : ℕ) (more run : Text) (front : Option (Text × Text)) → EscapedSoFar said content rest → front_of true rest ≡ and_front (byte ∷ []) (front_of false more) → front_of false more ≡ and_front run front → said ≡ and_front ((content ++ byte ∷ []) ++ run) front
+escaped_run said content rest byte more run front so_far is next =
+    so_far.front ∙ (ap (and_front content) is ∙ (and_and content (byte ∷ []) (front_of false more) ∙ (ap (and_front (content ++ byte ∷ [])) next ∙ and_and (content ++ byte ∷ []) run front)))
+
+-- up to the next `\`
+pub escaped_more : (said : Option (Text × Text)) (content rest : Text) (byte : ℕ) (more run : Text) (next : ℕ) (after : Text) → EscapedSoFar said content rest → front_of true rest ≡ and_front (byte ∷ []) (front_of false more) → CutAtEscape more run next after → next ≢ 34 → EscapedSoFar said ((content ++ byte ∷ []) ++ run) after
+escaped_more said content rest byte more run next after so_far is cut other = record {
+  front = escaped_run said content rest byte more run (front_of true after) so_far is (front_slash more run next after cut other);
 }
 
--- before another byte, or at the end
-pub front_bad : (content rest whole run : Text) (byte : ℕ) (after : Text) → FrontSoFar content rest whole → CutAtEscape rest run byte after → byte ≢ 34 → front_of true after ≡ None → front_of false whole ≡ None
-front_bad content rest whole run byte after so_far cut other is =
-    slash_read content rest whole run byte after so_far cut other ∙ ap (and_front (content ++ run)) is
+-- up to the closing quote
+pub escaped_closed : (said : Option (Text × Text)) (content rest : Text) (byte : ℕ) (more run : Text) (next : ℕ) (after : Text) → EscapedSoFar said content rest → front_of true rest ≡ and_front (byte ∷ []) (front_of false more) → CutAtEscape more run next after → next ≡ 34 → said ≡ Some ((content ++ byte ∷ []) ++ run, after)
+escaped_closed said content rest byte more run next after so_far is cut quote =
+    escaped_run said content rest byte more run (Some ([], after)) so_far is (front_closed more run next after cut quote ∙ ap (λ t. Some (t, after)) (sym (append-nil run))) ∙ ap (λ t. Some (t, after)) (append-nil ((content ++ byte ∷ []) ++ run))
+
+-- up to the end
+pub escaped_open : (said : Option (Text × Text)) (content rest : Text) (byte : ℕ) (more : Text) → EscapedSoFar said content rest → front_of true rest ≡ and_front (byte ∷ []) (front_of false more) → list_any is_escapable more ≡ false → said ≡ None
+escaped_open said content rest byte more so_far is bare = so_far.front ∙ ap (and_front content) (is ∙ ap (and_front (byte ∷ [])) (front_bare more bare))
+
+-- no byte that may stand there
+pub escaped_bad : (said : Option (Text × Text)) (content rest : Text) → EscapedSoFar said content rest → front_of true rest ≡ None → said ≡ None
+escaped_bad said content rest so_far is = so_far.front ∙ ap (and_front content) is
+
+-- a text without a closing quote, whatever stands before it
+pub none_before : (content : Text) (front : Option (Text × Text)) → and_front content front ≡ None → front ≡ None
+none_before content None is = refl
+none_before content (Some f) is = cc
 
 -- ---- the token
 

@@ -1,5 +1,5 @@
 // Integers, read from the front of a line.
-ghost use Rattle.std.specs.Prelude.{◌≡◌, ◌^◌, ◌<◌, ◌≤◌, pos, neg_ℤ, IfSome, length, take, nat_lt, MatchOption};
+ghost use Rattle.std.specs.Prelude.{◌≡◌, ◌-◌, ◌^◌, ◌<◌, ◌≤◌, true, false, pos, neg_ℤ, IfSome, length, take, nat_lt, MatchOption};
 ghost use Rattle.std.specs.Option.{option_map};
 ghost use Rattle.std.specs.Str.Parse.{digits_value};
 ghost use Rattle.cow_model.specs.Integer as spec;
@@ -9,6 +9,7 @@ ghost use Rattle.cow_lexis.specs.Cuts.{digits_len, integer_len, FrontNumber};
 const MAX_DIGITS: usize = 19;
 
 // The first 19 bytes of a line, or all where they are fewer.
+#[inline(always)]
 fn few(line: &[u8]) -> &[u8]
     ensures { result.now ≡ take 19 line.now }
 {
@@ -19,22 +20,37 @@ fn few(line: &[u8]) -> &[u8]
     }
 }
 
+// The number that a digit writes.
+#[inline(always)]
+fn digit_of(byte: u8) -> Option<u64>
+    ensures { MatchOption result (spec.is_digit byte ≡ false) (λ digit. (spec.is_digit byte ≡ true) × (digit ≡ byte - 48)) }
+{
+    let digit = u64::from(byte).wrapping_sub(48);
+    if digit <= 9 {
+        Some(digit)
+    } else {
+        None
+    }
+}
+
 // The number that the digits at the front write, and how many they are.
+#[inline(always)]
 fn few_digits(front: &[u8]) -> (u64, usize)
     requires { length front.now ≤ 19 }
     ensures { FrontNumber front.now result.0 result.1 }
 {
     let mut number = 0u64;
     for (i, byte) in front.iter().enumerate() {
-        if !byte.is_ascii_digit() {
-            return (number, i);
+        match digit_of(*byte) {
+            Some(digit) => number = number * 10 + digit,
+            None => return (number, i),
         }
-        number = number * 10 + u64::from(*byte - b'0');
     }
     (number, front.len())
 }
 
 // Whether a digit stands at the front.
+#[inline(always)]
 fn begins_with_digit(line: &[u8]) -> bool
     ensures { result ≡ nat_lt 0 (digits_len line.now) }
 {
@@ -42,6 +58,7 @@ fn begins_with_digit(line: &[u8]) -> bool
 }
 
 // The number that the digits at the front write, and how many they are, or `None` where they are more than 19.
+#[inline(always)]
 fn front_number(line: &[u8]) -> Option<(u64, usize)>
     ensures { MatchOption result (19 < digits_len line.now) (λ front. FrontNumber line.now front.0 front.1) }
 {
@@ -56,6 +73,7 @@ fn front_number(line: &[u8]) -> Option<(u64, usize)>
 }
 
 // The number that the digits at the front write, of which the first isn't `0`, up to `most`, and how many they are.
+#[inline(always)]
 fn front_positive(line: &[u8], most: u64) -> Option<(u64, usize)>
     requires { most < 10 ^ 19 }
     ensures value { result ≡ option_map (λ n. (n, digits_len line.now)) (spec.positive_of most (take (digits_len line.now) line.now)) }
@@ -72,6 +90,7 @@ fn front_positive(line: &[u8], most: u64) -> Option<(u64, usize)>
 }
 
 // The integer that a `-` and the digits at the front write, and how many they are.
+#[inline(always)]
 fn front_negative(digits: &[u8]) -> Option<(i64, usize)>
     ensures value { result ≡ option_map (λ n. (neg_ℤ (pos n), digits_len digits.now)) (spec.positive_of (2 ^ 63) (take (digits_len digits.now) digits.now)) }
     ensures fits { IfSome result (λ front. front.1 ≤ length digits.now) }
@@ -82,6 +101,7 @@ fn front_negative(digits: &[u8]) -> Option<(i64, usize)>
 
 /// The integer that the front of a line writes, up to the first byte that can't be one of it, and its bytes.
 /// Each digit is read once.
+#[inline(always)]
 pub(crate) fn front_integer(line: &[u8]) -> Option<(i64, usize)>
     ensures value { result ≡ option_map (λ x. (x, integer_len line.now)) (spec.integer_of (take (integer_len line.now) line.now)) }
     ensures fits { IfSome result (λ front. front.1 ≤ length line.now) }

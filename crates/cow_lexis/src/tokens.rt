@@ -1,14 +1,15 @@
-ghost use Rattle.std.specs.Prelude.{◌≡◌, ◌≢◌, ◌+◌, ◌<◌, [], ◌∷◌, length, take, drop, nat_le, slice_index, MatchOption};
+ghost use Rattle.std.specs.Prelude.{◌≡◌, ◌≢◌, ◌+◌, ◌<◌, [], ◌∷◌, length, take, drop, nat_le, slice_index, Ok, Some, MatchOption};
 ghost use Rattle.cow_model.specs.Lexis as spec;
 ghost use Rattle.cow_model.specs.Lexis.{tokens_of};
 ghost use Rattle.cow_model.specs.declared.reading.Quoting.TheVariants.{Start, Plain};
+ghost use Rattle.cow_model.specs.declared.plain.Literal.TheVariants as literal;
 ghost use Rattle.cow_lexis.specs.Cuts.{behind_token, cut_len, first_token};
 ghost use Rattle.cow_lexis.specs.Reads.{Reads, atom_ahead};
 
-use crate::atoms::front_atom;
+use crate::atoms::{front_atom, front_int, front_plain_text};
 use crate::places::{behind_byte, place_of};
 use crate::stop::Stop;
-use cow_model::{Literal, Quoting};
+use cow_model::{Bytes, Literal, Quoting};
 use std::alloc::Global;
 use std::marker::Model;
 
@@ -136,12 +137,37 @@ impl<'a> Tokens<'a> {
         Some(token)
     }
 
-    /// The atom that the next token is, or `None` where there is no token. Each byte is read once, and
-    /// only the content of a text takes memory.
-    ///
-    /// Errors: `Flaw` exactly as `atom_of` says of the token; `NoMemory`. After either, which tokens are left
-    /// is not said.
-    pub fn next_atom(&mut self, alloc: Global) -> Result<Option<Literal>, Stop>
+    // The next token where it is an integer; else nothing is taken.
+    #[inline(always)]
+    fn next_integer(&mut self) -> Option<i64>
+        ensures { MatchOption result (self.new ≡ self.old) (λ x. atom_ahead self.old ≡ Ok (Some (literal.Int x), self.new)) }
+    {
+        let line = without_spaces(self.rest);
+        if line.is_empty() || line[0] == b'"' {
+            return None;
+        }
+        let (x, after) = front_int(line)?;
+        self.rest = after;
+        Some(x)
+    }
+
+    // The content of the next token where it is a text without escapes; else nothing is taken.
+    #[inline(always)]
+    fn next_plain_text(&mut self) -> Option<&'a [u8]>
+        ensures { MatchOption result (self.new ≡ self.old) (λ content. atom_ahead self.old ≡ Ok (Some (literal.Text content.now), self.new)) }
+    {
+        let line = without_spaces(self.rest);
+        if line.is_empty() {
+            return None;
+        }
+        let (content, after) = front_plain_text(line)?;
+        self.rest = after;
+        Some(content)
+    }
+
+    // The atom that the next token is, or `None` where there is no token.
+    #[inline(never)]
+    fn next_other(&mut self, alloc: Global) -> Result<Option<Literal>, Stop>
         ensures { Reads (atom_ahead self.old) result self.new }
     {
         let line = without_spaces(self.rest);
@@ -152,6 +178,25 @@ impl<'a> Tokens<'a> {
         let (atom, after) = front_atom(alloc, line)?;
         self.rest = after;
         Ok(Some(atom))
+    }
+
+    /// The atom that the next token is, or `None` where there is no token. Each byte is read once, and
+    /// only the content of a text takes memory.
+    ///
+    /// Errors: `Flaw` exactly as `atom_of` says of the token; `NoMemory`. After either, which tokens are left
+    /// is not said.
+    #[inline(always)]
+    pub fn next_atom(&mut self, alloc: Global) -> Result<Option<Literal>, Stop>
+        ensures { Reads (atom_ahead self.old) result self.new }
+    {
+        if let Some(x) = self.next_integer() {
+            return Ok(Some(Literal::Int(x)));
+        }
+        if let Some(content) = self.next_plain_text() {
+            let bytes = Bytes::from_vec(Vec::from_slice(alloc, content)?);
+            return Ok(Some(Literal::Text(bytes)));
+        }
+        Ok(self.next_other(alloc)?)
     }
 
     /// Whether three tokens are left at least. Reads those three alone.

@@ -1,7 +1,7 @@
 use Rattle.std.proofs.Common.{◌<◌, ◌∙◌, length, sym, rules}
 use Rattle.std.proofs.lemmas.Result.{err_from_is_err_and}
 use Rattle.cow_lexis.proofs.TokenTexts.{ahead_atom, ahead_fails, ahead_none}
-use Rattle.cow_lexis.proofs.tokens.Tokens.next_atom.Goals as goal
+use Rattle.cow_lexis.proofs.tokens.Tokens.next_other.Goals as goal
 
 pub returns-then-is_empty : goal.returns-then-is_empty
 returns-then-is_empty c = ahead_none c.args.self.now c.without_spaces-line.result.now (sym c.self.view_is ∙ sym c.without_spaces-line.ensures.tokens) (search rules)
