@@ -26,11 +26,7 @@ fn digit_of(byte: u8) -> Option<u64>
     ensures { MatchOption result (spec.is_digit byte ≡ false) (λ digit. (spec.is_digit byte ≡ true) × (digit ≡ byte - 48)) }
 {
     let digit = u64::from(byte).wrapping_sub(48);
-    if digit <= 9 {
-        Some(digit)
-    } else {
-        None
-    }
+    if digit <= 9 { Some(digit) } else { None }
 }
 
 // The number that the digits at the front write, and how many they are.

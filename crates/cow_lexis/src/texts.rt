@@ -27,10 +27,7 @@ fn behind_backslash(text: &[u8]) -> Option<(u8, &[u8])>
 
 // Appends the content right behind a `\`, and answers what stands behind the closing quote, or `None` where there
 // is no text. Each run between two escapes is appended in one piece.
-fn read_escaped<'a>(
-    text: &'a [u8],
-    content: &mut Vec<u8>,
-) -> Result<Option<&'a [u8]>, NoMemory>
+fn read_escaped<'a>(text: &'a [u8], content: &mut Vec<u8>) -> Result<Option<&'a [u8]>, NoMemory>
     ensures { IfOk result (λ found. MatchOption found (front_of true text.now ≡ None) (λ after. and_front content.old.items (front_of true text.now) ≡ Some (content.new.items, after.now))) }
 {
     let mut rest = text;

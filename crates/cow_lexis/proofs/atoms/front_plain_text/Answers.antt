@@ -14,8 +14,7 @@ returns c =
     let whole = begins_with c.args.line.now text 34 quoted.0 quoted.1 quoted.2 in
     let closed = front_closed text content c.in_ok-content.byte rest c.in_ok-content.ensures c.if-byte-ne34.false in
     let said = text_ends text content rest closed c.in_ok-behind.ensures.0 in
-    let short : length content ≤ 255 = omega (arith, c.if-content-gt-MAX_TEXT.false) in
-    (
+    let short : length content ≤ 255 = omega (arith, c.if-content-gt-MAX_TEXT.false) in (
       ap (λ l. atom_of (first_token l)) whole ∙ (said.0 ∙ short_text content short),
       c.in_ok-behind.ensures.1 ∙ (sym said.1 ∙ ap behind_token (sym whole)),
     )
