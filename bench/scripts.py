@@ -2,14 +2,16 @@
 python3 bench/scripts.py [RUNS]
 
 Makes the scripts, runs the proved program on each RUNS times (5), and prints the least seconds of a run, the
-bytes read and written, the nanoseconds a byte of both, and the census: how many elements were copied, and how
-many the sharing rule allows. A row of a workload and the row of its double show how it grows. Nothing here is
-part of the tests.
+bytes read and written, the instructions a byte read (counted by valgrind, where it is there), and the census:
+how many elements were copied, and how many the sharing rule allows. A row of a workload and the row of its
+double show how it grows. What an empty script takes is taken off. Nothing here is part of the tests.
 """
 import os
 import re
+import shutil
 import subprocess
 import sys
+import tempfile
 import time
 
 TOP = os.path.dirname(os.path.dirname(os.path.abspath(__file__)))
@@ -26,6 +28,16 @@ def array(name, count):
 def long_line(count):
     """So many integers on one line, shown once."""
     return [array("a", count), "show a"]
+
+
+def made(count):
+    """So many integers of either sign on one line, and nothing else."""
+    return [array("a", count)]
+
+
+def texts(count):
+    """So many texts on one line, some with an escape, and nothing else."""
+    return ["let a = array " + " ".join(f'"part {i} of \\"{i % 97}\\""' if i % 8 == 0 else f'"part {i}"' for i in range(count))]
 
 
 def short_lines(count):
@@ -104,6 +116,8 @@ def blanks(count):
 
 
 WORKLOADS = [
+    ("integers, read alone", made, [32768, 65536]),
+    ("texts, read alone", texts, [32768, 65536]),
     ("integers on one line", long_line, [32768, 65536]),
     ("short lines", short_lines, [15000, 30000, 60000]),
     ("appends", appends, [15000, 30000, 60000]),
@@ -133,20 +147,29 @@ def run(script):
     return taken, census.start(), int(census[1]), int(census[2])
 
 
+def instructions(script):
+    """The instructions of one run, or None where nothing counts them."""
+    if not shutil.which("valgrind"):
+        return None
+    with tempfile.NamedTemporaryFile() as out:
+        done = subprocess.run(["valgrind", "--tool=callgrind", f"--callgrind-out-file={out.name}", PROGRAM, "run"],
+                              input=script, capture_output=True)
+    return int(re.search(rb"Collected : (\d+)", done.stderr)[1])
+
+
 def main(runs):
-    subprocess.run([f"{TOP}/bin/cowrun", "run"], input=b"")  # builds the program where it has to
-    idle = min(run(b"")[0] for _ in range(runs))
+    subprocess.run([f"{TOP}/bin/prove", "cowrun"], stdout=subprocess.DEVNULL, check=True)
+    idle, start = min(run(b"")[0] for _ in range(runs)), instructions(b"")
     print(f"an empty script takes {idle:.4f} s, which is taken off each line below")
-    print(f"{'script':32} {'seconds':>8} {'read':>8} {'written':>8} {'ns a byte':>9} {'copied':>11} {'at most':>11}")
+    print(f"{'script':32} {'seconds':>8} {'read':>8} {'written':>8} {'a byte':>8} {'copied':>11} {'at most':>11}")
     for name, workload, counts in WORKLOADS:
         for count in counts:
             script = "".join(line + "\n" for line in workload(count)).encode()
             if len(script) > 1048576:
                 sys.exit(f"{count} {name}: {len(script)} bytes are too many")
             least, written, copied, most = min(run(script) for _ in range(runs))
-            net = max(least - idle, 0.0)
-            each = 1e9 * net / (len(script) + written)
-            print(f"{f'{count:,} {name}':32} {net:8.4f} {len(script):8} {written:8} {each:9.1f} {copied:11} {most:11}")
+            each = "" if start is None else f"{(instructions(script) - start) / len(script):.1f}"
+            print(f"{f'{count:,} {name}':32} {max(least - idle, 0.0):8.4f} {len(script):8} {written:8} {each:>8} {copied:11} {most:11}")
 
 
 main(int(sys.argv[1]) if len(sys.argv) > 1 else 5)
