@@ -47,7 +47,7 @@ const PLACES: &[&str] = &["0", "0", "1", "1", "2", "3", "5", "-1"];
 const ENDS: &[&str] = &["first", "first", "last", "last", "min"];
 
 /// How many scripts are run, and how many lines each has.
-const SCRIPTS: u64 = 3_000;
+const SCRIPTS: u64 = 2_500;
 
 const LINES: u64 = 24;
 
