@@ -158,7 +158,8 @@ def instructions(script):
 
 
 def main(runs):
-    subprocess.run([f"{TOP}/bin/prove", "cowrun"], stdout=subprocess.DEVNULL, check=True)
+    proved = "source bin/proved; is_proved cowrun || bin/prove cowrun >&2"
+    subprocess.run(["bash", "-c", proved], cwd=TOP, check=True)
     idle, start = min(run(b"")[0] for _ in range(runs)), instructions(b"")
     print(f"an empty script takes {idle:.4f} s, which is taken off each line below")
     print(f"{'script':32} {'seconds':>8} {'read':>8} {'written':>8} {'a byte':>8} {'copied':>11} {'at most':>11}")
