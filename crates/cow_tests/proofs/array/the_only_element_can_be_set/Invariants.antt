@@ -1,4 +1,0 @@
-use Rattle.cow_tests.proofs.array.the_only_element_can_be_set.Given as goal
-
-abbrev pub ghosts-first_set : goal.ghosts-first_set
-ghosts-first_set g a = record { name = a.opening.name; ids = a.opening.ids }

@@ -1,6 +1,0 @@
-use Rattle.std.proofs.Common.{◌≤◌}
-use Rattle.cow_tests.proofs.cell.visit.Given as goal
-
--- a unit is left for the next twin
-abbrev pub invariant-loop : goal.invariant-loop
-invariant-loop g l = 1 ≤ l.h.spare

@@ -1,4 +1,0 @@
-use Rattle.cow_tests.proofs.print.lists_and_pairs_are_printed.Given as goal
-
-abbrev pub ghosts-printed_lists : goal.ghosts-printed_lists
-ghosts-printed_lists g a = record { name = a.opening.name; ids = a.opening.ids }
