@@ -1,10 +1,11 @@
-ghost use Rattle.std.specs.Prelude.{◌≡◌, ℕ, ◌+◌, ◌-◌, ◌*◌, ◌<◌, ◌≤◌, ◌^◌, List, vec_len, [], ◌∷◌, ◌++◌, length, map, take, count_by, slice_get, slice_range, slice_set, insert, remove, swap, reverse, max, IfOk, IfErr, OnOk, OnErr, IsOk, All, option_map, IfSome, IfNone, IsTrue, ◌↔◌, true, false, if◌then◌else◌};
-ghost use Rattle.std.specs.List.{splice};
+ghost use Rattle.std.specs.Prelude.{◌≡◌, ℕ, ◌+◌, ◌-◌, ◌*◌, ◌<◌, ◌≤◌, ◌^◌, List, vec_len, [], ◌∷◌, ◌++◌, length, map, take, count_by, slice_get, slice_range, slice_set, insert, remove, swap, reverse, min, max, IfOk, IfErr, OnOk, OnErr, IsOk, All, option_map, IfSome, IfNone, IsTrue, ◌↔◌, true, false, if◌then◌else◌};
+ghost use Rattle.std.specs.List.{splice, push};
 ghost use Rattle.cow_model.specs.Purse.{Moves, less, more, unit_if};
 ghost use Rattle.cow_row.specs.RowView.{IsSound};
+ghost use Rattle.cow_row.specs.Trades.{Trades};
 ghost use Rattle.cow_model.specs.Lists.{Pays};
 ghost use Rattle.cow_model.specs.Flat.{Becomes, Stays, HasRoom, need, copies, settled};
-ghost use Rattle.cow_array.specs.Growth.{HasDoubled};
+ghost use Rattle.cow_array.specs.Words.{InPlace, HandsBack, Doubles, Returns, PaysWith};
 
 use crate::slice::ArraySlice;
 use cow_cell::{Counted, Holder, Stock};
@@ -47,11 +48,8 @@ impl<T: Item<Q>, Q: Stock> Array<T, Q> {
         ensures spent { OnOk result (h.new ≡ less 1 h.old) }
         ensures refused { OnErr result (h.new ≡ h.old) }
     {
-        let row = Row::with_capacity(alloc, 0)?;
-        match Counted::new(alloc, row, h) {
-            Ok(cell) => Ok(Array { cell, alloc }),
-            Err((refused, _row)) => Err(refused),
-        }
+        let cell = storage::empty(alloc, 0, h)?;
+        Ok(Array { cell, alloc })
     }
 
     /// An array of these items, none of them copied. Linear in their number: they move once.
@@ -64,15 +62,11 @@ impl<T: Item<Q>, Q: Stock> Array<T, Q> {
         requires spare { 1 ≤ h.old.spare }
         ensures ok { IfOk result (λ a. Becomes (map T.plain items.items) a) }
         ensures spent { OnOk result (h.new ≡ less 1 h.old) }
-        ensures refused { IfErr result (λ e. (e.1.items ≡ items.items) × (h.new ≡ h.old)) }
+        ensures refused { IfErr result (λ e. (e.1 ≡ items) × (h.new ≡ h.old)) }
     {
-        let row = match Row::with_capacity(alloc, items.len()) {
-            Ok(row) => row,
-            Err(refused) => return Err((refused, items)),
-        };
-        let mut cell = match Counted::new(alloc, row, h) {
+        let mut cell = match storage::empty(alloc, items.len(), h) {
             Ok(cell) => cell,
-            Err((refused, _row)) => return Err((refused, items)),
+            Err(refused) => return Err((refused, items)),
         };
         row::replace_run(cell.only(), 0, 0, items, h);
         Ok(Array { cell, alloc })
@@ -150,7 +144,7 @@ impl<T: Item<Q>, Q: Stock> Array<T, Q> {
     /// The handle is given back; the last one of a storage ends its items, in one pass.
     pub fn end(self, h: &mut Holder<Q>)
         ensures moved { Moves (count_by T.is_counted self.value) 0 (more 1 h.old) h.new }
-        ensures exact { self.alone ≡ true → h.new ≡ more (count_by T.is_counted self.value) (more 1 h.old) }
+        ensures exact { Returns T.is_counted self (more 1 h.old) h.new }
         ensures never_less { h.old.spare + 1 ≤ h.new.spare }
     {
         let Array { cell, alloc: _ } = self;
@@ -161,10 +155,10 @@ impl<T: Item<Q>, Q: Stock> Array<T, Q> {
     pub fn append(&mut self, x: T, h: &mut Holder<Q>) -> Result<(), (NoMemory, T)>
         requires growth { length self.old.value + 1 < 2 ^ 31 }
         requires spare { need (length self.old.value) ≤ h.old.spare }
-        ensures ok { OnOk result (Becomes (self.old.value ++ T.plain x ∷ []) self.new) }
-        ensures within { HasRoom 1 self.old → IsOk result × (self.new.room + 1 ≡ self.old.room) }
-        ensures doubled { self.old.room ≡ 0 → OnOk result (HasDoubled (length self.old.value) 1 self.new) }
-        ensures refused { IfErr result (λ e. Stays self.old self.new × (h.new ≡ h.old) × (e.1 ≡ x)) }
+        ensures ok { OnOk result (Becomes (push self.old.value (T.plain x)) self.new) }
+        ensures within { InPlace 1 0 result self.old self.new }
+        ensures doubled { Doubles 1 result self.old self.new }
+        ensures refused { IfErr result (HandsBack x self.old self.new h.old h.new) }
         ensures paid { Pays T.is_counted T.WEIGHT self.old h.old h.new }
         ensures free { self.old.alone ≡ true → h.new ≡ h.old }
     {
@@ -184,8 +178,8 @@ impl<T: Item<Q>, Q: Stock> Array<T, Q> {
         requires spare { need (length self.old.value) ≤ h.old.spare }
         ensures ok { OnOk result (Becomes (slice_set self.old.value i (T.plain x)) self.new) }
         ensures old { IfOk result (λ y. slice_get self.old.value i ≡ Some (T.plain y)) }
-        ensures within { self.old.alone ≡ true → IsOk result × (self.new.room ≡ self.old.room) }
-        ensures refused { IfErr result (λ e. Stays self.old self.new × (h.new ≡ h.old) × (e.1 ≡ x)) }
+        ensures within { InPlace 0 0 result self.old self.new }
+        ensures refused { IfErr result (HandsBack x self.old self.new h.old h.new) }
         ensures paid { Pays T.is_counted T.WEIGHT self.old h.old h.new }
         ensures free { self.old.alone ≡ true → h.new ≡ h.old }
     {
@@ -204,9 +198,9 @@ impl<T: Item<Q>, Q: Stock> Array<T, Q> {
         requires growth { length self.old.value + 1 < 2 ^ 31 }
         requires spare { need (length self.old.value) ≤ h.old.spare }
         ensures ok { OnOk result (Becomes (insert self.old.value i (T.plain x)) self.new) }
-        ensures within { HasRoom 1 self.old → IsOk result × (self.new.room + 1 ≡ self.old.room) }
-        ensures doubled { self.old.room ≡ 0 → OnOk result (HasDoubled (length self.old.value) 1 self.new) }
-        ensures refused { IfErr result (λ e. Stays self.old self.new × (h.new ≡ h.old) × (e.1 ≡ x)) }
+        ensures within { InPlace 1 0 result self.old self.new }
+        ensures doubled { Doubles 1 result self.old self.new }
+        ensures refused { IfErr result (HandsBack x self.old self.new h.old h.new) }
         ensures paid { Pays T.is_counted T.WEIGHT self.old h.old h.new }
         ensures free { self.old.alone ≡ true → h.new ≡ h.old }
     {
@@ -226,7 +220,7 @@ impl<T: Item<Q>, Q: Stock> Array<T, Q> {
         requires spare { need (length self.old.value) ≤ h.old.spare }
         ensures ok { OnOk result (Becomes (remove self.old.value i) self.new) }
         ensures old { IfOk result (λ y. slice_get self.old.value i ≡ Some (T.plain y)) }
-        ensures within { self.old.alone ≡ true → IsOk result × (self.new.room ≡ self.old.room + 1) }
+        ensures within { InPlace 0 1 result self.old self.new }
         ensures refused { OnErr result (Stays self.old self.new × (h.new ≡ h.old)) }
         ensures paid { Pays T.is_counted T.WEIGHT self.old h.old h.new }
         ensures free { self.old.alone ≡ true → h.new ≡ h.old }
@@ -239,11 +233,13 @@ impl<T: Item<Q>, Q: Stock> Array<T, Q> {
     #[tactic(auto, using(cow_row::proofs::Runs::row_steps))]
     pub fn pop_last(&mut self, h: &mut Holder<Q>) -> Result<Option<T>, NoMemory>
         requires spare { need (length self.old.value) ≤ h.old.spare }
-        ensures last { IfOk result (λ o. IfSome o (λ x. self.old.value ≡ self.new.value ++ T.plain x ∷ [])) }
+        ensures last { IfOk result (λ o. IfSome o (λ x.
+            self.old.value ≡ push self.new.value (T.plain x))) }
         ensures alone { IfOk result (λ o. IfSome o (λ _. self.new.alone ≡ true)) }
-        ensures none { IfOk result (λ o. IfNone o ((self.old.value ≡ []) × (self.new ≡ self.old))) }
+        ensures none { IfOk result (λ o. IfNone o
+            ((self.old.value ≡ []) × (self.new ≡ self.old))) }
         ensures empty { self.old.value ≡ [] → IsOk result }
-        ensures within { self.old.alone ≡ true → IsOk result × (self.new.room + length self.new.value ≡ self.old.room + length self.old.value) }
+        ensures within { InPlace 0 (min 1 (length self.old.value)) result self.old self.new }
         ensures refused { OnErr result (Stays self.old self.new × (h.new ≡ h.old)) }
         ensures paid { Pays T.is_counted T.WEIGHT self.old h.old h.new }
         ensures free { self.old.alone ≡ true → h.new ≡ h.old }
@@ -262,7 +258,7 @@ impl<T: Item<Q>, Q: Stock> Array<T, Q> {
         requires second { j < length self.old.value }
         requires spare { need (length self.old.value) ≤ h.old.spare }
         ensures ok { OnOk result (Becomes (swap self.old.value i j) self.new) }
-        ensures within { self.old.alone ≡ true → IsOk result × (self.new.room ≡ self.old.room) }
+        ensures within { InPlace 0 0 result self.old self.new }
         ensures refused { OnErr result (Stays self.old self.new × (h.new ≡ h.old)) }
         ensures paid { Pays T.is_counted T.WEIGHT self.old h.old h.new }
         ensures free { self.old.alone ≡ true → h.new ≡ h.old }
@@ -277,7 +273,7 @@ impl<T: Item<Q>, Q: Stock> Array<T, Q> {
     pub fn reverse(&mut self, h: &mut Holder<Q>) -> Result<(), NoMemory>
         requires spare { need (length self.old.value) ≤ h.old.spare }
         ensures ok { OnOk result (Becomes (reverse self.old.value) self.new) }
-        ensures within { self.old.alone ≡ true → IsOk result × (self.new.room ≡ self.old.room) }
+        ensures within { InPlace 0 0 result self.old self.new }
         ensures refused { OnErr result (Stays self.old self.new × (h.new ≡ h.old)) }
         ensures paid { Pays T.is_counted T.WEIGHT self.old h.old h.new }
         ensures free { self.old.alone ≡ true → h.new ≡ h.old }
@@ -288,7 +284,8 @@ impl<T: Item<Q>, Q: Stock> Array<T, Q> {
     }
 
     /// `items` stand in the place of the elements from `i` up to `j`, which end. What stands behind moves
-    /// once, by one move of memory. Swift's `replaceSubrange`. One step for each element that comes or goes.
+    /// once, by one move of memory. Swift's `replaceSubrange`. One step for each element that comes or goes. Of a
+    /// storage that others hold only the elements that stay are copied.
     #[tactic(auto, using(cow_row::proofs::Runs::row_steps))]
     pub fn replace(
         &mut self,
@@ -300,19 +297,16 @@ impl<T: Item<Q>, Q: Stock> Array<T, Q> {
         requires order { i ≤ j }
         requires within { j ≤ length self.old.value }
         requires growth { length self.old.value + vec_len items < 2 ^ 31 + (j - i) }
-        requires spare { need (length self.old.value) ≤ h.old.spare }
-        ensures ok { OnOk result (Becomes (splice self.old.value i j (map T.plain items.items)) self.new) }
-        ensures within { HasRoom (vec_len items - (j - i)) self.old → IsOk result × (self.new.room + vec_len items ≡ self.old.room + (j - i)) }
-        ensures refused { IfErr result (λ e. Stays self.old self.new × (h.new ≡ h.old) × (e.1.items ≡ items.items)) }
-        ensures exact { self.old.alone ≡ true → OnOk result (h.new ≡ more (count_by T.is_counted (slice_range self.old.value i j)) h.old) }
-        ensures paid { Pays T.is_counted T.WEIGHT self.old h.old h.new }
+        requires spare { need (length self.old.value - (j - i)) ≤ h.old.spare }
+        ensures ok { OnOk result
+            (Becomes (splice self.old.value i j (map T.plain items.items)) self.new) }
+        ensures within { InPlace (vec_len items) (j - i) result self.old self.new }
+        ensures refused { IfErr result (HandsBack items self.old self.new h.old h.new) }
+        ensures exact { self.old.alone ≡ true → OnOk result
+            (h.new ≡ more (count_by T.is_counted (slice_range self.old.value i j)) h.old) }
+        ensures paid { Trades T.is_counted T.WEIGHT self.old.alone i j self.old.value h.old h.new }
     {
-        let extra = items.len().saturating_sub(j - i);
-        if let Err(refused) = storage::prepare(&mut self.cell, self.alloc, extra, h) {
-            return Err((refused, items));
-        }
-        row::replace_run(self.cell.only(), i, j - i, items, h);
-        Ok(())
+        storage::replace_run(&mut self.cell, i, j - i, self.alloc, items, h)
     }
 
     /// Copies of the other's elements stand last: Swift's `append(contentsOf:)`. Linear in their number over many
@@ -322,10 +316,10 @@ impl<T: Item<Q>, Q: Stock> Array<T, Q> {
         requires growth { length self.old.value + length other.now.value < 2 ^ 31 }
         requires spare { need (length self.old.value + length other.now.value) ≤ h.old.spare }
         ensures ok { OnOk result (Becomes (self.old.value ++ other.now.value) self.new) }
-        ensures within { HasRoom (length other.now.value) self.old → IsOk result × (self.new.room + length other.now.value ≡ self.old.room) }
-        ensures doubled { self.old.room < length other.now.value → OnOk result (HasDoubled (length self.old.value) (length other.now.value) self.new) }
+        ensures within { InPlace (length other.now.value) 0 result self.old self.new }
+        ensures doubled { Doubles (length other.now.value) result self.old self.new }
         ensures refused { OnErr result (Stays self.old self.new × (h.new ≡ h.old)) }
-        ensures paid { Moves (count_by T.is_counted (self.old.value ++ other.now.value)) (copies self.old.alone (T.WEIGHT * length self.old.value) + T.WEIGHT * length other.now.value) h.old h.new }
+        ensures paid { PaysWith T.is_counted T.WEIGHT self.old other.now.value h.old h.new }
     {
         let from = other.cell.get();
         storage::prepare(&mut self.cell, self.alloc, from.len(), h)?;
@@ -355,8 +349,8 @@ impl<T: Item<Q>, Q: Stock> Array<T, Q> {
     pub fn clear(&mut self, h: &mut Holder<Q>) -> Result<(), NoMemory>
         requires spare { need (length self.old.value) ≤ h.old.spare }
         ensures ok { OnOk result (Becomes [] self.new) }
-        ensures within { self.old.alone ≡ true → IsOk result × (self.new.room ≡ self.old.room + length self.old.value) }
-        ensures exact { self.old.alone ≡ true → h.new ≡ more (count_by T.is_counted self.old.value) h.old }
+        ensures within { InPlace 0 (length self.old.value) result self.old self.new }
+        ensures exact { Returns T.is_counted self.old h.old h.new }
         ensures refused { OnErr result (Stays self.old self.new × (h.new ≡ h.old)) }
         ensures paid { Moves (count_by T.is_counted self.old.value) 0 h.old h.new }
     {

@@ -1,7 +1,9 @@
 ghost use Rattle.std.specs.Prelude.{◌≡◌, ℕ, ◌+◌, ◌-◌, ◌*◌, ◌<◌, ◌≤◌, ◌^◌, List, [], ◌∷◌, ◌++◌, length, map, take, drop, count_by, slice_get, slice_set, IfOk, IfErr, OnOk, OnErr, IsOk, IsSome, IsNone, IfSome, IfNone, IsTrue, ◌↔◌, All, option_map, true, false, if◌then◌else◌};
 ghost use Rattle.cow_model.specs.Purse.{Moves, less, more, unit_if};
 ghost use Rattle.cow_model.specs.Flat.{need, copies, settled, HasRoom, Stays, Becomes};
-ghost use Rattle.cow_array.specs.Growth.{HasDoubled};
+ghost use Rattle.cow_array.specs.Slice.{element, with_element};
+ghost use Rattle.cow_array.specs.Words.{InPlace, HandsBack, AddsUnit, PaysShown};
+ghost use Rattle.std.specs.List.{push};
 
 use crate::array::Array;
 use cow_cell::{Counted, Holder, Stock};
@@ -84,7 +86,8 @@ impl<T: Item<Q>, Q: Stock> ArraySlice<T, Q> {
     #[tactic(auto, using(cow_row::proofs::Runs::row_steps))]
     pub fn get(&self, i: usize) -> Option<&T>
         ensures below { i < self.now.value.start → IsNone result }
-        ensures value { self.now.value.start ≤ i → option_map (λ x. T.plain x.now) result ≡ slice_get self.now.value.items (i - self.now.value.start) }
+        ensures value { self.now.value.start ≤ i
+            → option_map (λ x. T.plain x.now) result ≡ element self.now.value i }
         ensures settled { IfSome result (λ x. T.IsSettled x.now) }
     {
         if self.start <= i && i - self.start < self.count {
@@ -150,15 +153,16 @@ impl<T: Item<Q>, Q: Stock> ArraySlice<T, Q> {
         requires above { self.old.value.start ≤ i }
         requires below { i < self.old.value.start + length self.old.value.items }
         requires spare { need (length self.old.value.items) ≤ h.old.spare }
-        ensures items { OnOk result (self.new.value.items ≡ slice_set self.old.value.items (i - self.old.value.start) (T.plain x)) }
+        ensures items { OnOk result
+            (self.new.value.items ≡ with_element self.old.value i (T.plain x)) }
         ensures start { self.new.value.start ≡ self.old.value.start }
-        ensures units { OnOk result (self.new.value.units ≤ self.old.value.units + unit_if (T.is_counted (T.plain x))) }
+        ensures units { OnOk result (AddsUnit (T.is_counted (T.plain x)) self.old self.new) }
         ensures alone { OnOk result (self.new.alone ≡ true) }
-        ensures old { IfOk result (λ y. slice_get self.old.value.items (i - self.old.value.start) ≡ Some (T.plain y)) }
-        ensures within { self.old.alone ≡ true → IsOk result × (self.new.room ≡ self.old.room) }
-        ensures refused { IfErr result (λ e. Stays self.old self.new × (h.new ≡ h.old) × (e.1 ≡ x)) }
+        ensures old { IfOk result (λ y. element self.old.value i ≡ Some (T.plain y)) }
+        ensures within { InPlace 0 0 result self.old self.new }
+        ensures refused { IfErr result (HandsBack x self.old self.new h.old h.new) }
         ensures falls { h.old.spare ≤ h.new.spare + length self.old.value.items }
-        ensures moved { Moves self.old.value.units (copies self.old.alone (T.WEIGHT * length self.old.value.items)) h.old h.new }
+        ensures moved { PaysShown T.WEIGHT self.old h.old h.new }
     {
         match storage::prepare_run(&mut self.cell, self.from, self.count, self.alloc, 0, h) {
             Ok(from) => self.from = from,
@@ -177,15 +181,17 @@ impl<T: Item<Q>, Q: Stock> ArraySlice<T, Q> {
         requires growth { length self.old.value.items + 1 < 2 ^ 31 }
         requires stop { self.old.value.start + length self.old.value.items < 2 ^ 31 }
         requires spare { need (length self.old.value.items) ≤ h.old.spare }
-        ensures items { OnOk result (self.new.value.items ≡ self.old.value.items ++ T.plain x ∷ []) }
+        ensures items { OnOk result
+            (self.new.value.items ≡ push self.old.value.items (T.plain x)) }
         ensures start { self.new.value.start ≡ self.old.value.start }
-        ensures units { OnOk result (self.new.value.units ≤ self.old.value.units + unit_if (T.is_counted (T.plain x))) }
+        ensures units { OnOk result (AddsUnit (T.is_counted (T.plain x)) self.old self.new) }
         ensures alone { OnOk result (self.new.alone ≡ true) }
-        ensures within { HasRoom 1 self.old → IsOk result × (self.new.room + 1 ≡ self.old.room) }
-        ensures doubled { self.old.room ≡ 0 → OnOk result (length self.old.value.items ≤ self.new.room + 1) }
-        ensures refused { IfErr result (λ e. Stays self.old self.new × (h.new ≡ h.old) × (e.1 ≡ x)) }
+        ensures within { InPlace 1 0 result self.old self.new }
+        ensures doubled { self.old.room ≡ 0
+            → OnOk result (length self.old.value.items ≤ self.new.room + 1) }
+        ensures refused { IfErr result (HandsBack x self.old self.new h.old h.new) }
         ensures falls { h.old.spare ≤ h.new.spare + length self.old.value.items }
-        ensures moved { Moves self.old.value.units (copies self.old.alone (T.WEIGHT * length self.old.value.items)) h.old h.new }
+        ensures moved { PaysShown T.WEIGHT self.old h.old h.new }
     {
         match storage::prepare_run(&mut self.cell, self.from, self.count, self.alloc, 1, h) {
             Ok(from) => self.from = from,
@@ -206,9 +212,10 @@ impl<T: Item<Q>, Q: Stock> ArraySlice<T, Q> {
         ensures ok { IfOk result (λ a. Becomes self.value.items a) }
         ensures within { self.alone ≡ true → IsOk result }
         ensures refused { IfErr result (λ e. (e.1 ≡ self) × (h.new ≡ h.old)) }
-        ensures exact { self.alone ≡ true → h.new.spare + count_by T.is_counted self.value.items ≡ h.old.spare + self.value.units }
+        ensures exact { self.alone ≡ true
+            → h.new.spare + count_by T.is_counted self.value.items ≡ h.old.spare + self.value.units }
         ensures falls { h.old.spare ≤ h.new.spare + length self.value.items }
-        ensures moved { Moves self.value.units (copies self.alone (T.WEIGHT * length self.value.items)) h.old h.new }
+        ensures moved { PaysShown T.WEIGHT self h.old h.new }
     {
         let ArraySlice {
             mut cell,
@@ -248,7 +255,8 @@ impl<T: Item<Q>, Q: Stock> ArraySlice<T, Q> {
         ensures room { self.new.room ≡ self.old.room }
         ensures empty { IfNone result ((self.new ≡ self.old) × (h.new ≡ h.old)) }
         ensures alone { self.old.alone ≡ true → self.new.alone ≡ true }
-        ensures paid { IfSome result (λ x. Moves (unit_if (T.is_counted (T.plain x))) (copies self.old.alone T.WEIGHT) h.old h.new) }
+        ensures paid { IfSome result (λ x.
+            Moves (unit_if (T.is_counted (T.plain x))) (copies self.old.alone T.WEIGHT) h.old h.new) }
     {
         if self.count == 0 {
             return None;

@@ -12,7 +12,7 @@ use Rattle.cow_model.specs.Operation.{Answer}
 use Rattle.cow_model.specs.Printed.{refusal}
 use Rattle.cow_model.specs.Purse.{Purse}
 use Rattle.cow_model.specs.Sharing.{Layer, both_cost, both_cost_of}
-use Rattle.cow_model.specs.Step.{becomes, with_entry, with_found, as_changed}
+use Rattle.cow_model.specs.Step.{becomes, with_entry, with_found, as_changed, turned_by}
 use Rattle.cow_model.specs.Turns.{turn_by_of, added_of, alone_after}
 use Rattle.cow_model.specs.declared.memory.NoMemory.{NoMemory}
 use Rattle.cow_model.specs.declared.outcome.Entry.{Entry}
@@ -22,7 +22,6 @@ use Rattle.cow_model.specs.declared.value.Plain.{Plain}
 use Rattle.cow_value.specs.Seen.{units}
 use Rattle.cow_eval.specs.Entries.{SeenEntry, IsKept, Changes, EntryCosts, allowed_for, entry_of}
 use Rattle.cow_eval.specs.Envs.{SeenEnv, ChangesBy, Does, IsBare, env_of}
-use Rattle.cow_eval.specs.Statements.{turned_by}
 use Rattle.cow_eval.proofs.Places.{there}
 use Rattle.std.proofs.lemmas.List.{append-nil}
 use Rattle.cow_eval.proofs.BareNames.{changed-bare}

@@ -2,12 +2,11 @@
 use Rattle.std.proofs.Common.{◌≡◌, ℕ, Bool, ◌⊎◌, inl, inr, refl}
 use Rattle.cow_model.specs.Lexis.{Text}
 use Rattle.cow_model.specs.Sharing.{literals}
-use Rattle.cow_model.specs.Step.{changing_by}
+use Rattle.cow_model.specs.Step.{changing_by, turned_by}
 use Rattle.cow_model.specs.declared.outcome.Environment.{Environment}
 use Rattle.cow_model.specs.declared.statement.Statement as statement
 use Rattle.cow_model.specs.declared.statement.Statement.{Statement, out-Statement}
 use Rattle.cow_model.specs.declared.statement.Statement.TheVariants.{Extend, Union, Inter, Minus, SymDiff, Merge, Within}
-use Rattle.cow_eval.specs.Statements.{turned_by}
 
 -- one of the seven, on these two names
 abbrev IsByOther : Statement → Text → Text → Type 0

@@ -1,11 +1,9 @@
 pub mod Apart
 pub mod BareNames
-pub mod Blocks
 pub mod ByOther
 pub mod Costs
-pub mod FirstLine
 pub mod Flags
-pub mod Growth
+pub mod Handing
 pub mod Itself
 pub mod Places
 pub mod Reading

@@ -1,12 +1,16 @@
 -- What contracts see of an environment over counted values, and what statements do to it.
-use Rattle.std.specs.Prelude.{◌≡◌, ℕ, ◌+◌, ◌*◌, ◌≤◌, ◌^◌, ◌++◌, Bool, List, [], All, length, map, get_or, set, ⊤, Result, OnOk, OnErr}
+use Rattle.std.specs.Prelude.{◌≡◌, ℕ, ◌+◌, ◌*◌, ◌≤◌, ◌^◌, ◌++◌, Bool, List, [], All, length, map, get_or, set, ⊤, Option, Some, None, Result, OnOk, OnErr}
+use Rattle.cow_model.specs.Env as model
+use Rattle.cow_model.specs.Env.{shared, without, renamed}
 use Rattle.cow_model.specs.Lexis.{Text}
 use Rattle.cow_model.specs.Plain.{stop}
 use Rattle.cow_model.specs.Purse.{Purse, RisesWithin}
 use Rattle.cow_model.specs.Sharing.{Layer, both_cost_of}
+use Rattle.cow_model.specs.Step.{settles}
 use Rattle.cow_model.specs.Turns.{turn_by_of, added_of, alone_after}
 use Rattle.cow_model.specs.declared.memory.NoMemory.{NoMemory}
 use Rattle.cow_model.specs.declared.plain.Literal.{Literal}
+use Rattle.cow_model.specs.declared.outcome.Entry.{Entry}
 use Rattle.cow_model.specs.declared.outcome.Environment.{Environment}
 use Rattle.cow_model.specs.declared.outcome.Outcome.{Outcome}
 use Rattle.cow_model.specs.declared.refusal.Refusal.{Refusal}
@@ -23,6 +27,10 @@ pub record SeenEnv : Type 0 where
 abbrev pub env_of : SeenEnv → Environment
 env_of env = record { names = map entry_of env.names; room = env.room; allowed = env.allowed }
 
+-- the entry of a name
+abbrev pub entry_in : Text → SeenEnv → Option Entry
+entry_in name env = model.entry_of name (env_of env).names
+
 -- no storage of these names holds a unit
 abbrev pub IsBare : (Literal → Bool) → List SeenEntry → Type 0
 IsBare counted names = All (λ e. units counted e.seen ≡ 0) names
@@ -31,6 +39,29 @@ IsBare counted names = All (λ e. units counted e.seen ≡ 0) names
 pub record Balances (counted : Literal → Bool) (more : ℕ) (before after : List SeenEntry) (h h' : Purse) : Type 0 where
   pub bare : IsBare counted after
   pub sum : h'.spare + length after ≡ h.spare + length before + more
+
+-- the name isn't there, and nothing has changed
+pub record LacksName (name : Text) (before after : SeenEnv) : Type 0 where
+  pub lacks : entry_in name before ≡ None
+  pub kept : after ≡ before
+
+-- a second value of a name, in an entry of that name: neither is alone
+pub record Lends (counted : Literal → Bool) (name : Text) (before after : SeenEnv) (lent : SeenEntry) : Type 0 where
+  pub whole : Entry
+  pub found : entry_in name before ≡ Some whole
+  pub named : whole.name ≡ name
+  pub copy : entry_of lent ≡ shared whole
+  pub rest : env_of after ≡ settles name (env_of before)
+  pub as_many : length after.names ≡ length before.names
+  pub bare : IsBare counted before.names → IsBare counted after.names × (units counted lent.seen ≡ 0)
+
+-- a name is taken out with its value and flag
+pub record Parts (counted : Literal → Bool) (name : Text) (before after : SeenEnv) (gone : SeenEntry) : Type 0 where
+  pub found : entry_in name before ≡ Some (entry_of gone)
+  pub named : gone.name ≡ name
+  pub rest : env_of after ≡ renamed (without name (env_of before).names) (env_of before)
+  pub fewer : length after.names + 1 ≡ length before.names
+  pub bare : IsBare counted before.names → IsBare counted after.names × (units counted gone.seen ≡ 0)
 
 -- what n statements cost that have so many literals: no more copies are made than those and what is allowed besides, and few units are used
 pub record Costs (literals n : ℕ) (before after : SeenEnv) (h h' : Purse) : Type 0 where
@@ -81,15 +112,19 @@ pub record ChangesBy (counted : Literal → Bool) (s : Layer) (at by : ℕ) (bef
   pub costs : EntryCosts counted (allowed_for (both_cost_of old.flag old.seen.value + added_of s other.seen.value)
       ((turn_by_of s other.seen.value).run old.seen.value)) (units counted other.seen ≡ 0) old new h h'
 
+-- no slice among them stops so close to 2^31 that n more elements would not fit
+abbrev pub AreNear : ℕ → List SeenEntry → Type 0
+AreNear n entries = All (λ e. stop e.seen.value + n ≤ 2 ^ 31) entries
+
 -- n statements may be run: what is allowed stays a number of 64 bits, no slice stops at 2^31, and the units are there
 pub record CanRun (n : ℕ) (env : SeenEnv) (h : Purse) : Type 0 where
   pub few : n ≤ 2 ^ 30
   pub allowed : env.allowed + n * most_units ≤ 2 ^ 63 + most_units
-  pub near : All (λ e. stop e.seen.value + n ≤ 2 ^ 31) env.names
+  pub near : AreNear n env.names
   pub spare : 2 ^ 39 + n * most_units ≤ h.spare
 
 -- one statement may be run whose literals are allowed already
 pub record CanAct (env : SeenEnv) (h : Purse) : Type 0 where
   pub allowed : env.allowed ≤ 2 ^ 63 + most_units
-  pub near : All (λ e. stop e.seen.value + 1 ≤ 2 ^ 31) env.names
+  pub near : AreNear 1 env.names
   pub spare : 2 ^ 39 + most_units ≤ h.spare

@@ -4,7 +4,7 @@ ghost use Rattle.std.specs.Str.{bytes_eq};
 ghost use Rattle.cow_model.specs.Plain.{stop};
 ghost use Rattle.cow_model.specs.declared.statement.Statement.{out-Statement};
 ghost use Rattle.cow_eval.specs.Envs.{Runs, CanAct, env_of, ChangesBy};
-ghost use Rattle.cow_eval.specs.Statements.{turned_by};
+ghost use Rattle.cow_model.specs.Step.{turned_by};
 
 use crate::entry::Entry;
 use crate::env::Env;

@@ -68,6 +68,20 @@ impl<V: Values<Q>, Q: Stock> Entry<V, Q> {
         }
     }
 
+    /// Its name.
+    pub fn name(&self) -> &[u8]
+        ensures { result.now ≡ self.now.name }
+    {
+        self.name.as_slice()
+    }
+
+    /// The same value and flag under another name.
+    pub fn renamed(self, name: Name) -> Entry<V, Q>
+        ensures { result ≡ record self { name = name } }
+    {
+        Entry { name, ..self }
+    }
+
     /// Whether this is its name.
     pub fn is_named(&self, name: &[u8]) -> bool
         ensures { result ≡ bytes_eq self.now.name name.now }

@@ -1,11 +1,13 @@
 // The environment of a block.
-ghost use Rattle.std.specs.Prelude.{◌≡◌, ◌≤◌, ◌+◌, length, ◌++◌, ◌∷◌, [], true, is_some, IsOk, OnOk, OnErr};
+ghost use Rattle.std.specs.Prelude.{◌≡◌, ◌≤◌, ◌<◌, ◌+◌, ◌^◌, length, ◌++◌, ◌∷◌, [], true, is_some, IsOk, IfOk, IfSome, IfNone, OnOk, OnErr};
 ghost use Rattle.cow_model.specs.Env as spec;
+ghost use Rattle.cow_model.specs.Env.{given, renamed};
 ghost use Rattle.cow_model.specs.Plain.{count, max_count};
+ghost use Rattle.cow_model.specs.Purse.{less};
 ghost use Rattle.cow_model.specs.Step.{gives};
 ghost use Rattle.cow_value.specs.Seen.{units};
-ghost use Rattle.cow_eval.specs.Entries.{IsKept, SeenEntry};
-ghost use Rattle.cow_eval.specs.Envs.{env_of, IsBare, Balances};
+ghost use Rattle.cow_eval.specs.Entries.{IsKept, SeenEntry, entry_of};
+ghost use Rattle.cow_eval.specs.Envs.{env_of, IsBare, Balances, Lends, Parts, LacksName};
 
 use crate::entry::Entry;
 use crate::names::find;
@@ -14,6 +16,7 @@ use cow_model::{Name, NoMemory};
 use cow_value::Values;
 use std::alloc::Global;
 use std::marker::Model;
+use std::mem;
 
 /// The most names of an environment.
 const MAX_NAMES: usize = 64;
@@ -84,11 +87,83 @@ impl<V: Values<Q>, Q: Stock> Env<V, Q> {
         end_all(self.names, h);
     }
 
-    // Whether a name may be given a value: it is there already, or fewer than 64 names are.
-    pub(crate) fn has_place(&self, name: &[u8]) -> bool
+    /// Whether a name may be given a value: it is there already, or fewer than 64 names are.
+    pub fn has_place(&self, name: &[u8]) -> bool
         ensures { result ≡ spec.has_place name.now (env_of self.now).names }
     {
         find(&self.names, name).is_some() || self.names.len() < MAX_NAMES
+    }
+
+    /// A second whole value of a name, as an entry of its own; neither is alone. `None` where the name isn't
+    /// there. One step beside the look at each name; it takes memory for the name.
+    ///
+    /// Errors: `NoMemory` alone. Nothing has changed then.
+    pub fn lend(
+        &mut self,
+        alloc: Global,
+        name: &[u8],
+        h: &mut Holder<Q>,
+    ) -> Result<Option<Entry<V, Q>>, NoMemory>
+        requires spare { 1 ≤ h.old.spare }
+        ensures some { IfOk result (λ r. IfSome r (Lends V.counted name.now self.old self.new)) }
+        ensures spent { IfOk result (λ r. IfSome r (λ _. h.new ≡ less 1 h.old)) }
+        ensures none { IfOk result (λ r. IfNone r (LacksName name.now self.old self.new × (h.new ≡ h.old))) }
+        ensures err { OnErr result ((self.new ≡ self.old) × (h.new ≡ h.old)) }
+    {
+        let Some(at) = find(&self.names, name) else {
+            return Ok(None);
+        };
+        let bytes = Vec::from_slice(alloc, name)?;
+        let value = self.names[at].copy(h);
+        Ok(Some(Entry::new(Name::from_vec(bytes), value, false)))
+    }
+
+    /// Takes a name out with its value. `None` where it isn't there. It moves the names behind it, and takes no
+    /// memory.
+    pub fn take(&mut self, name: &[u8]) -> Option<Entry<V, Q>>
+        ensures some { IfSome result (Parts V.counted name.now self.old self.new) }
+        ensures none { IfNone result (LacksName name.now self.old self.new) }
+    {
+        let Some(at) = find(&self.names, name) else {
+            return None;
+        };
+        Some(self.names.remove(at))
+    }
+
+    /// Gives the name of an entry its value and flag. The handle of its old value is given back; a new name
+    /// stands behind all others.
+    ///
+    /// Errors: `NoMemory` alone, for a new name. The handle of the entry is given back then.
+    pub fn accept(&mut self, entry: Entry<V, Q>, h: &mut Holder<Q>) -> Result<(), NoMemory>
+        ensures ok { OnOk result (env_of self.new
+            ≡ renamed (given (entry_of entry) (env_of self.old).names) (env_of self.old)) }
+        ensures allowed { self.new.allowed ≡ self.old.allowed }
+        ensures copied { h.new.copied ≡ h.old.copied }
+        ensures falls { h.old.spare ≤ h.new.spare }
+        ensures bare { IsBare V.counted self.old.names → units V.counted entry.seen ≡ 0 →
+            OnOk result (Balances V.counted 1 self.old.names self.new.names h.old h.new) }
+    {
+        match find(&self.names, entry.name()) {
+            Some(at) => {
+                mem::replace(&mut self.names[at], entry).end(h);
+                Ok(())
+            }
+            None => match self.names.push(entry) {
+                Ok(()) => Ok(()),
+                Err(failed) => {
+                    failed.value.end(h);
+                    Err(NoMemory)
+                }
+            },
+        }
+    }
+
+    /// Counts so many more copies as allowed.
+    pub fn allow(&mut self, copies: u64)
+        requires few { self.old.allowed + copies < 2 ^ 64 }
+        ensures { self.new ≡ record self.old { allowed = self.old.allowed + copies } }
+    {
+        self.allowed += copies;
     }
 
     // Gives a new name its value, behind all others. Want of memory gives the handle back.

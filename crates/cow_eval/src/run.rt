@@ -1,14 +1,14 @@
-// Statements in turn.
-ghost use Rattle.std.specs.Prelude.{◌≡◌, ℕ, ◌++◌, ◌^◌, ◌≤◌, ◌+◌, ◌*◌, [], true, length, All, IsOk, OnOk, OnErr};
-ghost use Rattle.cow_model.specs.Atoms.{FitsTexts, counted_in, IsBareStep, IsBareLayer, IsBareBlock};
-ghost use Rattle.cow_model.specs.Fronts.{GrowsWithin};
+// What one statement does, by its word.
+ghost use Rattle.std.specs.Prelude.{◌≡◌, ℕ, ◌+◌, ◌≤◌, ◌<◌, ◌^◌, [], true, IsOk, OnOk};
+ghost use Rattle.cow_model.specs.Atoms.{counted_in, IsBareStep};
 ghost use Rattle.cow_model.specs.Purse.{RisesBy};
 ghost use Rattle.cow_model.specs.Run as run;
 ghost use Rattle.cow_model.specs.Sharing as sharing;
 ghost use Rattle.cow_model.specs.Step as spec;
 ghost use Rattle.cow_model.specs.declared.statement.Statement.{out-Statement};
-ghost use Rattle.cow_eval.specs.Envs.{CanAct, CanRun, Does, Reads, Runs, env_of};
-ghost use Rattle.cow_eval.specs.Statements.{IsRunnable, is_free, AreThere, outcome_of};
+ghost use Rattle.cow_eval.specs.Entries.{most_units};
+ghost use Rattle.cow_eval.specs.Envs.{AreNear, CanAct, CanRun, Reads, Runs, env_of};
+ghost use Rattle.cow_eval.specs.Statements.{IsRunnable, is_free, AreThere};
 
 use crate::both::turn_by;
 use crate::env::Env;
@@ -94,6 +94,7 @@ fn changing<V: Values<Q>, Q: Stock>(
         | Statement::Remove { name, .. }
         | Statement::RemoveAt { name, .. }
         | Statement::Set { name, .. }
+        | Statement::Pop { name, .. }
         | Statement::Replace { name, .. }
         | Statement::Swap { name, .. }
         | Statement::Reverse { name, .. }
@@ -150,17 +151,17 @@ fn act<V: Values<Q>, Q: Stock>(
         }
         Statement::Discard { name, .. } => discard(name.as_slice(), env, h, text),
         Statement::Show { name, .. } => show(name.as_slice(), env, text),
-        Statement::Pop { name, .. } => turn(alloc, statement, name.as_slice(), env, h, text),
         _ => changing(alloc, statement, env, h, text),
     }
 }
 
-/// Runs one statement: appends what it prints to `text`, and leaves the environment after it.
+/// Runs one statement that is no fork and no give: appends what it prints to `text`, and leaves the environment
+/// after it.
 ///
 /// A statement looks at each of the at most 64 names. `let N = M`, a slice and `drop` are one step beside that;
 /// a change is linear in the elements at most.
 ///
-/// No more is copied than what is allowed rises by, and a `let` that isn't refused copies its literals. Where
+/// No more is copied than what is allowed rises by, which is at most 2^22, and a `let` that isn't refused copies its literals. Where
 /// no text is held or brought in, spare and the number of names add up to as much as before.
 ///
 /// Errors: `NoMemory` alone. The text is then as it was. Of the environment nothing is said but that it can be
@@ -168,7 +169,7 @@ fn act<V: Values<Q>, Q: Stock>(
 ///
 /// The statement is one of a script (`IsRunnable`). A holder with 2^40 units, an environment that allows at most
 /// 2^63 copies, and slices that stop below 2^31 meet the other condition.
-pub fn run_statement<V: Values<Q>, Q: Stock>(
+pub fn run_step<V: Values<Q>, Q: Stock>(
     alloc: Global,
     statement: &Statement,
     env: &mut Env<V, Q>,
@@ -181,62 +182,12 @@ pub fn run_statement<V: Values<Q>, Q: Stock>(
         AreThere (env_of env.old).names (out-Statement statement.now) → IsOk result }
     ensures least { OnOk result (RisesBy (run.least_layer (env_of env.old) (out-Statement statement.now)) h.old h.new) }
     ensures next { (n : ℕ) → CanRun (n + 1) env.old h.old → OnOk result (CanRun n env.new h.new) }
+    ensures near { (n : ℕ) → n < 2 ^ 30 → AreNear (n + 1) env.old.names → OnOk result (AreNear n env.new.names) }
+    ensures rises { env.new.allowed ≤ env.old.allowed + most_units }
     ensures step { Runs V.counted (IsBareStep V.counted (out-Statement statement.now)) 0
         (spec.step (env_of env.old) [] (out-Statement statement.now))
         env.old env.new text.old.items text.new.items h.old h.new result }
 {
     env.allowed += literals(statement) as u64;
     act(alloc, statement, env, h, text)
-}
-
-// A statement of a block.
-fn run_one<V: Values<Q>, Q: Stock>(
-    alloc: Global,
-    statement: &Statement,
-    env: &mut Env<V, Q>,
-    h: &mut Holder<Q>,
-    text: &mut Vec<u8>,
-) -> Result<(), NoMemory>
-    requires statement { IsRunnable (out-Statement statement.now) }
-    requires ready { CanRun 1 env.old h.old }
-    ensures least { OnOk result (RisesBy (run.least_layer (env_of env.old) (out-Statement statement.now)) h.old h.new) }
-    ensures next { (n : ℕ) → CanRun (n + 1) env.old h.old → OnOk result (CanRun n env.new h.new) }
-    ensures step { Runs V.counted (IsBareLayer V.counted (out-Statement statement.now)) 0
-        (run.run_one (env_of env.old) [] statement.now)
-        env.old env.new text.old.items text.new.items h.old h.new result }
-{
-    match statement {
-        Statement::Fork { .. } => unreachable!(),
-        _ => run_statement(alloc, statement, env, h, text),
-    }
-}
-
-/// Runs statements in turn: appends what they print to `text`, and leaves the environment after them.
-///
-/// Copies and units move as by `run_statement`, added up.
-///
-/// Errors: `NoMemory` alone. The text then grew by a front of what `Ok` would have printed.
-///
-/// The statements are those of a script (`IsRunnable`). A holder with 2^40 units and 2^22 for each statement, an
-/// environment that allows at most 2^62 copies, slices that stop that many places below 2^31, and at most 2^30
-/// statements meet the other condition.
-pub fn run_block<V: Values<Q>, Q: Stock>(
-    alloc: Global,
-    block: &[Statement],
-    env: &mut Env<V, Q>,
-    h: &mut Holder<Q>,
-    text: &mut Vec<u8>,
-) -> Result<(), NoMemory>
-    requires block { All (λ s. IsRunnable (out-Statement s)) block.now }
-    requires ready { CanRun (length block.now) env.old h.old }
-    ensures least { OnOk result (RisesBy (run.least_from (env_of env.old) [] block.now) h.old h.new) }
-    ensures steps { Does V.counted (IsBareBlock V.counted block.now) 0 (length block.now)
-        (outcome_of (env_of env.old) block.now)
-        (GrowsWithin text.old.items text.new.items (run.text_from (env_of env.old) [] block.now))
-        env.old env.new text.old.items text.new.items h.old h.new result }
-{
-    for statement in block {
-        run_one(alloc, statement, env, h, text)?;
-    }
-    Ok(())
 }

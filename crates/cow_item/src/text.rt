@@ -12,7 +12,8 @@ use std::alloc::Global;
 use std::cmp::Ordering;
 use std::marker::Model;
 
-/// A counted text of at most 255 bytes. A copy shares them.
+/// A counted text of at most 255 bytes. A copy shares them. Up to 30 bytes stand in the block of the count, and more
+/// in one of their own.
 #[derive(Drop)]
 pub struct Text<Q: Stock> {
     cell: Counted<Bytes, Q>,
@@ -40,11 +41,11 @@ impl<Q: Stock> Text<Q> {
         ensures spent { OnOk result (h.new ≡ less 1 h.old) }
         ensures refused { OnErr result (h.new ≡ h.old) }
     {
-        let items = match Vec::from_slice(alloc, bytes) {
+        let items = match Bytes::from_slice(alloc, bytes) {
             Ok(items) => items,
             Err(_) => return Err(NoMemory),
         };
-        match Counted::new(alloc, Bytes::from_vec(items), h) {
+        match Counted::new(alloc, items, h) {
             Ok(cell) => Ok(Text { cell }),
             Err((refused, _bytes)) => Err(refused),
         }

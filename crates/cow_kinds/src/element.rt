@@ -6,7 +6,7 @@ ghost use Rattle.cow_model.specs.Purse.{less, noted, unit_if};
 ghost use Rattle.std.proofs.Common.{rules};
 
 use cow_cell::{Holder, Stock};
-use cow_item::{Atom, Item, Key};
+use cow_item::{Atom, Item, Key, Text};
 use cow_model::{Literal, NoMemory};
 use cow_print::put_atom;
 use std::alloc::Global;
@@ -14,17 +14,33 @@ use std::alloc::Global;
 /// What the collections of a script hold: a key that is made of a literal and that is printed. One copy
 /// of it counts one.
 pub trait Element<Q: Stock>: Key<Q> {
-    /// The element of a literal. `copied` rises by one, and spare falls by the element's units.
+    /// The element of a literal, which nobody has counted: `copied` stays, and spare falls by the element's
+    /// units. Whoever makes a run of elements by it counts the run.
+    fn uncounted(alloc: Global, literal: &Literal, h: &mut Holder<Q>) -> Result<Self, NoMemory>
+        requires length { FitsText literal.now }
+        requires spare { 1 ≤ h.old.spare }
+        ensures ok { IfOk result (λ x. Self.plain x ≡ literal.now) }
+        ensures spent { OnOk result (h.new ≡ less (unit_if (Self.is_counted literal.now)) h.old) }
+        ensures refused { OnErr result (h.new ≡ h.old) };
+
+    /// The same, counted: `copied` rises by one.
     fn read(alloc: Global, literal: &Literal, h: &mut Holder<Q>) -> Result<Self, NoMemory>
         requires length { FitsText literal.now }
         requires spare { 1 ≤ h.old.spare }
         ensures ok { IfOk result (λ x. Self.plain x ≡ literal.now) }
-        ensures spent { OnOk result (h.new ≡ noted 1 (less (unit_if (Self.is_counted literal.now)) h.old)) }
-        ensures refused { OnErr result (h.new ≡ h.old) };
+        ensures spent { OnOk result
+            (h.new ≡ noted 1 (less (unit_if (Self.is_counted literal.now)) h.old)) }
+        ensures refused { OnErr result (h.new ≡ h.old) }
+    {
+        let x = Self::uncounted(alloc, literal, h)?;
+        h.note(1);
+        Ok(x)
+    }
 
     /// Appends the printed form. Want of memory leaves a part of it.
     fn put(&self, text: &mut Vec<u8>) -> Result<(), NoMemory>
-        ensures ok { OnOk result (text.new.items ≡ text.old.items ++ atom_text (Self.plain self.now)) }
+        ensures ok { OnOk result
+            (text.new.items ≡ text.old.items ++ atom_text (Self.plain self.now)) }
         ensures front { StartsWith text.new.items text.old.items };
 
     /// Whether its plain value is the literal. Takes no memory.
@@ -35,8 +51,11 @@ pub trait Element<Q: Stock>: Key<Q> {
 }
 
 impl<Q: Stock> Element<Q> for Atom<Q> {
-    fn read(alloc: Global, literal: &Literal, h: &mut Holder<Q>) -> Result<Atom<Q>, NoMemory> {
-        Atom::read(alloc, literal, h)
+    fn uncounted(alloc: Global, literal: &Literal, h: &mut Holder<Q>) -> Result<Atom<Q>, NoMemory> {
+        match literal {
+            Literal::Int(x) => Ok(Atom::Int(*x)),
+            Literal::Text(bytes) => Ok(Atom::Text(Text::new(alloc, bytes.as_slice(), h)?)),
+        }
     }
 
     fn put(&self, text: &mut Vec<u8>) -> Result<(), NoMemory> {

@@ -10,6 +10,7 @@ use crate::element::Element;
 use crate::listed::Listed;
 use cow_cell::Stock;
 use cow_model::NoMemory;
+use cow_print::whole_or_none;
 use itoa::Buffer;
 
 // The element and a newline. Want of memory leaves a part of them.
@@ -28,11 +29,8 @@ pub fn put_element<T: Element<Q>, Q: Stock>(x: &T, text: &mut Vec<u8>) -> Result
     ensures err { OnErr result (text.new.items ≡ text.old.items) }
 {
     let before = text.len();
-    let result = put_part(x, text);
-    if result.is_err() {
-        text.truncate(before);
-    }
-    result
+    let appended = put_part(x, text);
+    whole_or_none(text, before, appended)
 }
 
 /// The line of the element at a place of a list, or `nil`.
@@ -54,19 +52,25 @@ pub fn put_element_at<T: Element<Q>, Q: Stock, L: Listed<T, Q>>(
     }
 }
 
+// The number and a newline. Want of memory leaves a part of them.
+fn put_number_part(n: usize, text: &mut Vec<u8>) -> Result<(), NoMemory>
+    ensures ok { OnOk result (text.new.items ≡ text.old.items ++ line (decimal n)) }
+    ensures front { StartsWith text.new.items text.old.items }
+{
+    let mut buffer = Buffer::new();
+    text.extend_from_slice(buffer.format(n).as_bytes())?;
+    text.push(b'\n')?;
+    Ok(())
+}
+
 /// The line of a number.
 pub fn put_number(n: usize, text: &mut Vec<u8>) -> Result<(), NoMemory>
     ensures ok { OnOk result (text.new.items ≡ text.old.items ++ line (decimal n)) }
     ensures err { OnErr result (text.new.items ≡ text.old.items) }
 {
     let before = text.len();
-    let mut buffer = Buffer::new();
-    text.extend_from_slice(buffer.format(n).as_bytes())?;
-    if text.push(b'\n').is_err() {
-        text.truncate(before);
-        return Err(NoMemory);
-    }
-    Ok(())
+    let appended = put_number_part(n, text);
+    whole_or_none(text, before, appended)
 }
 
 /// The line of `true` or `false`.

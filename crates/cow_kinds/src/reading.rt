@@ -1,7 +1,7 @@
 // Elements that are made of the literals of a statement, and how they end.
-ghost use Rattle.std.specs.Prelude.{◌≡◌, ℕ, ◌≤◌, ◌+◌, ◌-◌, [], ◌∷◌, ◌++◌, map, take, length, vec_len, count_by, All, IfOk, OnOk, OnErr};
+ghost use Rattle.std.specs.Prelude.{◌≡◌, ◌≤◌, ◌+◌, [], ◌∷◌, ◌++◌, map, length, count_by, All, IfOk, OnOk, OnErr};
 ghost use Rattle.cow_model.specs.Literals.{FitsText};
-ghost use Rattle.cow_model.specs.Purse.{Moves, less, more, noted, unit_if};
+ghost use Rattle.cow_model.specs.Purse.{less, more, noted, unit_if};
 
 use crate::element::Element;
 use cow_cell::{Holder, Stock};
@@ -18,7 +18,7 @@ pub fn end_all<T: Element<Q>, Q: Stock>(items: Vec<T>, h: &mut Holder<Q>)
     }
 }
 
-// Appends the element of a literal, or leaves the items as they were.
+// Appends the element of a literal, which isn't counted, or leaves the items as they were.
 fn read_one<T: Element<Q>, Q: Stock>(
     alloc: Global,
     literal: &Literal,
@@ -29,13 +29,11 @@ fn read_one<T: Element<Q>, Q: Stock>(
     requires spare { 1 ≤ h.old.spare }
     ensures ok { OnOk result
         (map T.plain items.new.items ≡ map T.plain items.old.items ++ literal.now ∷ []) }
-    ensures spent { OnOk result
-        (h.new ≡ noted 1 (less (unit_if (T.is_counted literal.now)) h.old)) }
-    ensures refused { OnErr result
-        ((items.new.items ≡ items.old.items) × (h.new.spare ≡ h.old.spare)) }
-    ensures copied { OnErr result (Moves 0 1 h.old h.new) }
+    ensures spent { OnOk result (h.new ≡ less (unit_if (T.is_counted literal.now)) h.old) }
+    ensures same { OnErr result (items.new.items ≡ items.old.items) }
+    ensures refused { OnErr result (h.new ≡ h.old) }
 {
-    let x = T::read(alloc, literal, h)?;
+    let x = T::uncounted(alloc, literal, h)?;
     if let Err(failed) = items.push(x) {
         failed.value.end(h);
         return Err(NoMemory);
@@ -43,7 +41,7 @@ fn read_one<T: Element<Q>, Q: Stock>(
     Ok(())
 }
 
-// The elements of the literals, in order. Want of memory leaves some of them.
+// The elements of the literals, in order, which aren't counted. Want of memory leaves some of them.
 fn read_into<T: Element<Q>, Q: Stock>(
     alloc: Global,
     literals: &[Literal],
@@ -54,12 +52,9 @@ fn read_into<T: Element<Q>, Q: Stock>(
     requires spare { length literals.now ≤ h.old.spare }
     requires empty { items.old.items ≡ [] }
     ensures ok { OnOk result (map T.plain items.new.items ≡ literals.now) }
-    ensures spent { OnOk result
-        (h.new ≡ noted (length literals.now) (less (count_by T.is_counted literals.now) h.old)) }
     ensures units { h.new.spare + count_by T.is_counted (map T.plain items.new.items)
         ≡ h.old.spare }
-    ensures copied { h.new.copied ≤ h.old.copied + length literals.now }
-    ensures kept { h.old.copied ≤ h.new.copied }
+    ensures copied { h.new.copied ≡ h.old.copied }
 {
     for literal in literals {
         read_one(alloc, literal, items, h)?;
@@ -67,8 +62,7 @@ fn read_into<T: Element<Q>, Q: Stock>(
     Ok(())
 }
 
-/// The elements of the literals, in order. Each counts one copy; want of memory gives their units
-/// back.
+/// The elements of the literals, in order, with one count of as many copies. Want of memory changes nothing.
 pub fn read_all<T: Element<Q>, Q: Stock>(
     alloc: Global,
     literals: &[Literal],
@@ -79,14 +73,13 @@ pub fn read_all<T: Element<Q>, Q: Stock>(
     ensures ok { IfOk result (λ items. map T.plain items.items ≡ literals.now) }
     ensures spent { OnOk result
         (h.new ≡ noted (length literals.now) (less (count_by T.is_counted literals.now) h.old)) }
-    ensures refused { OnErr result (Moves 0 (length literals.now) h.old h.new) }
+    ensures refused { OnErr result (h.new ≡ h.old) }
 {
-    let mut items = Vec::new(alloc);
-    match read_into(alloc, literals, &mut items, h) {
-        Ok(()) => Ok(items),
-        Err(refused) => {
-            end_all(items, h);
-            Err(refused)
-        }
+    let mut items = Vec::with_capacity(alloc, literals.len())?;
+    if let Err(refused) = read_into(alloc, literals, &mut items, h) {
+        end_all(items, h);
+        return Err(refused);
     }
+    h.note(literals.len() as u64);
+    Ok(items)
 }

@@ -1,10 +1,7 @@
 // The atom at the front of a line.
-ghost use Rattle.std.specs.Prelude.{◌≡◌, ◌<◌, ◌∷◌, None, Some, Ok, drop, MatchOption, ⊤};
-ghost use Rattle.cow_model.specs.Atom.{atom_of};
-ghost use Rattle.cow_model.specs.Integer.{integer_of};
-ghost use Rattle.cow_model.specs.declared.plain.Literal.TheVariants as literal;
-ghost use Rattle.cow_model.specs.declared.reading.Quoting.TheVariants.{Plain};
-ghost use Rattle.cow_lexis.specs.Cuts.{behind_token, cut_len, first_token};
+ghost use Rattle.std.specs.Prelude.{◌∷◌};
+ghost use Rattle.cow_lexis.specs.Cuts.{BehindEnd};
+ghost use Rattle.cow_lexis.specs.Fronts.{FrontInt, FrontText};
 ghost use Rattle.cow_lexis.specs.Reads.{ReadsFront};
 
 use crate::integers::front_integer;
@@ -20,7 +17,7 @@ const MAX_TEXT: usize = 255;
 // What stands behind a token that ends here, or `None` where it goes on.
 #[inline(always)]
 fn behind(rest: &[u8]) -> Option<&[u8]>
-    ensures { MatchOption result (0 < cut_len Plain rest.now) (λ after. (cut_len Plain rest.now ≡ 0) × (after.now ≡ drop 1 rest.now)) }
+    ensures { BehindEnd rest.now result }
 {
     match rest {
         [] => Some(rest),
@@ -29,12 +26,16 @@ fn behind(rest: &[u8]) -> Option<&[u8]>
     }
 }
 
-// The text at the front of a line, whose opening quote is read.
+// The text at the front of a line, whose opening quote is read. `content` is room for its content.
 #[inline(never)]
-fn front_text(alloc: Global, text: &[u8]) -> Result<(Literal, &[u8]), Stop>
+fn front_text<'a>(
+    alloc: Global,
+    text: &'a [u8],
+    content: &mut Vec<u8>,
+) -> Result<(Literal, &'a [u8]), Stop>
     ensures { ReadsFront (34 ∷ text.now) result }
 {
-    let Some((content, rest)) = front_content(alloc, text)? else {
+    let Some(rest) = front_content(text, content)? else {
         return Err(Stop::Flaw(Flaw::BadAtom));
     };
     let Some(after) = behind(rest) else {
@@ -47,14 +48,15 @@ fn front_text(alloc: Global, text: &[u8]) -> Result<(Literal, &[u8]), Stop>
             bound: MAX_TEXT as u64,
         }));
     }
-    Ok((Literal::Text(Bytes::from_vec(content)), after))
+    let bytes = Bytes::from_slice(alloc, content)?;
+    Ok((Literal::Text(bytes), after))
 }
 
 /// The content of the text that the first token of a line is, where it has no escape and no more than 255
 /// bytes, and what stands behind that token. Each byte is read once.
 #[inline(always)]
 pub(crate) fn front_plain_text(line: &[u8]) -> Option<(&[u8], &[u8])>
-    ensures { MatchOption result ⊤ (λ front. (atom_of (first_token line.now) ≡ Ok (literal.Text front.0.now)) × (front.1.now ≡ behind_token line.now)) }
+    ensures { FrontText line.now result }
 {
     let text = behind_byte(b'"', line)?;
     let (content, byte, rest) = next_escape(text)?;
@@ -71,18 +73,23 @@ pub(crate) fn front_plain_text(line: &[u8]) -> Option<(&[u8], &[u8])>
 /// once.
 #[inline(always)]
 pub(crate) fn front_int(line: &[u8]) -> Option<(i64, &[u8])>
-    ensures { MatchOption result (integer_of (first_token line.now) ≡ None) (λ front. (integer_of (first_token line.now) ≡ Some front.0) × (front.1.now ≡ behind_token line.now)) }
+    ensures { FrontInt line.now result }
 {
     let (x, len) = front_integer(line)?;
     Some((x, behind(&line[len..])?))
 }
 
 /// The atom that the first token of a line is, and what stands behind that token. Each byte is read once.
-pub(crate) fn front_atom(alloc: Global, line: &[u8]) -> Result<(Literal, &[u8]), Stop>
+/// `content` is room for the content of a text.
+pub(crate) fn front_atom<'a>(
+    alloc: Global,
+    line: &'a [u8],
+    content: &mut Vec<u8>,
+) -> Result<(Literal, &'a [u8]), Stop>
     ensures { ReadsFront line.now result }
 {
     if let Some(text) = behind_byte(b'"', line) {
-        return front_text(alloc, text);
+        return front_text(alloc, text, content);
     }
     match front_int(line) {
         Some((x, after)) => Ok((Literal::Int(x), after)),

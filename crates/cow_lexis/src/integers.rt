@@ -1,9 +1,8 @@
 // Integers, read from the front of a line.
-ghost use Rattle.std.specs.Prelude.{◌≡◌, ◌-◌, ◌^◌, ◌<◌, ◌≤◌, true, false, pos, neg_ℤ, IfSome, length, take, nat_lt, MatchOption};
-ghost use Rattle.std.specs.Option.{option_map};
-ghost use Rattle.std.specs.Str.Parse.{digits_value};
+ghost use Rattle.std.specs.Prelude.{◌≡◌, ◌^◌, ◌<◌, ◌≤◌, IfSome, length, take, nat_lt};
 ghost use Rattle.cow_model.specs.Integer as spec;
-ghost use Rattle.cow_lexis.specs.Cuts.{digits_len, integer_len, FrontNumber};
+ghost use Rattle.cow_lexis.specs.Cuts as cuts;
+ghost use Rattle.cow_lexis.specs.Cuts.{digits_len, DigitOf, FewDigits, FrontNumber};
 
 /// The most digits that write a number of 64 bits whatever they are.
 const MAX_DIGITS: usize = 19;
@@ -23,7 +22,7 @@ fn few(line: &[u8]) -> &[u8]
 // The number that a digit writes.
 #[inline(always)]
 fn digit_of(byte: u8) -> Option<u64>
-    ensures { MatchOption result (spec.is_digit byte ≡ false) (λ digit. (spec.is_digit byte ≡ true) × (digit ≡ byte - 48)) }
+    ensures { DigitOf byte result }
 {
     let digit = u64::from(byte).wrapping_sub(48);
     if digit <= 9 { Some(digit) } else { None }
@@ -56,7 +55,7 @@ fn begins_with_digit(line: &[u8]) -> bool
 // The number that the digits at the front write, and how many they are, or `None` where they are more than 19.
 #[inline(always)]
 fn front_number(line: &[u8]) -> Option<(u64, usize)>
-    ensures { MatchOption result (19 < digits_len line.now) (λ front. FrontNumber line.now front.0 front.1) }
+    ensures { FewDigits line.now result }
 {
     let (number, len) = few_digits(few(line));
     if len < MAX_DIGITS {
@@ -72,7 +71,7 @@ fn front_number(line: &[u8]) -> Option<(u64, usize)>
 #[inline(always)]
 fn front_positive(line: &[u8], most: u64) -> Option<(u64, usize)>
     requires { most < 10 ^ 19 }
-    ensures value { result ≡ option_map (λ n. (n, digits_len line.now)) (spec.positive_of most (take (digits_len line.now) line.now)) }
+    ensures value { result ≡ cuts.front_positive most line.now }
     ensures fits { IfSome result (λ front. front.1 ≤ length line.now) }
 {
     let (number, len) = front_number(line)?;
@@ -88,7 +87,7 @@ fn front_positive(line: &[u8], most: u64) -> Option<(u64, usize)>
 // The integer that a `-` and the digits at the front write, and how many they are.
 #[inline(always)]
 fn front_negative(digits: &[u8]) -> Option<(i64, usize)>
-    ensures value { result ≡ option_map (λ n. (neg_ℤ (pos n), digits_len digits.now)) (spec.positive_of (2 ^ 63) (take (digits_len digits.now) digits.now)) }
+    ensures value { result ≡ cuts.front_negative digits.now }
     ensures fits { IfSome result (λ front. front.1 ≤ length digits.now) }
 {
     let (number, len) = front_positive(digits, 1 << 63)?;
@@ -99,7 +98,7 @@ fn front_negative(digits: &[u8]) -> Option<(i64, usize)>
 /// Each digit is read once.
 #[inline(always)]
 pub(crate) fn front_integer(line: &[u8]) -> Option<(i64, usize)>
-    ensures value { result ≡ option_map (λ x. (x, integer_len line.now)) (spec.integer_of (take (integer_len line.now) line.now)) }
+    ensures value { result ≡ cuts.front_integer line.now }
     ensures fits { IfSome result (λ front. front.1 ≤ length line.now) }
 {
     match line {

@@ -1,8 +1,8 @@
 // Lines, cut off the front of a text.
-ghost use Rattle.std.specs.Prelude.{◌≡◌, ◌+◌, ◌<◌, ◌∷◌, ◌==◌, length, IfSome, MatchOption};
+ghost use Rattle.std.specs.Prelude.{◌≡◌, ◌+◌, ◌<◌, ◌∷◌, ◌==◌, length, IfSome};
 ghost use Rattle.std.specs.List.{before_first, after_first};
 ghost use Rattle.cow_model.specs.Lexis as spec;
-ghost use Rattle.cow_lexis.specs.Cuts.{AreEmpty, with_empty};
+ghost use Rattle.cow_lexis.specs.Cuts.{NextLine, with_empty};
 
 use crate::places::{behind_byte, place_of};
 
@@ -57,7 +57,7 @@ fn skip_newlines(text: &[u8]) -> (usize, &[u8])
 /// behind its newline; `None` where no line or none but empty ones are left. Linear in the bytes up to that
 /// newline, and takes no memory.
 pub fn next_line(text: &[u8]) -> Option<(usize, &[u8], &[u8])>
-    ensures line { MatchOption result (AreEmpty (spec.lines_of text.now)) (λ cut. spec.lines_of text.now ≡ with_empty cut.0 (cut.1.now ∷ spec.lines_of cut.2.now)) }
+    ensures line { NextLine text.now result }
     ensures bytes { IfSome result (λ cut. cut.0 + length cut.2.now < length text.now) }
 {
     let (empty, rest) = skip_newlines(text);

@@ -1,12 +1,10 @@
 // The content of a text, read from the front of a line.
-ghost use Rattle.std.specs.Prelude.{◌≡◌, ◌<◌, [], ◌∷◌, length, true, false, None, Some, IfOk, IfSome, MatchOption};
-ghost use Rattle.std.specs.Option.{option_map};
+ghost use Rattle.std.specs.Prelude.{◌≡◌, ◌<◌, length, IfOk, IfSome};
 ghost use Rattle.cow_model.specs.Atom.{is_escapable};
-ghost use Rattle.cow_lexis.specs.Cuts.{and_front, front_of};
+ghost use Rattle.cow_lexis.specs.Cuts.{EscapedByte, ReadsContent, ReadsEscaped};
 
 use crate::places::next_escape;
 use cow_model::NoMemory;
-use std::alloc::Global;
 
 fn is_escapable(byte: u8) -> bool
     ensures { result ≡ is_escapable byte }
@@ -16,7 +14,7 @@ fn is_escapable(byte: u8) -> bool
 
 // The byte right behind a `\`, where that may stand before it, and what stands behind it.
 fn behind_backslash(text: &[u8]) -> Option<(u8, &[u8])>
-    ensures front { MatchOption result (front_of true text.now ≡ None) (λ cut. front_of true text.now ≡ and_front (cut.0 ∷ []) (front_of false cut.1.now)) }
+    ensures front { EscapedByte text.now result }
     ensures shorter { IfSome result (λ cut. length cut.1.now < length text.now) }
 {
     match text {
@@ -28,7 +26,7 @@ fn behind_backslash(text: &[u8]) -> Option<(u8, &[u8])>
 // Appends the content right behind a `\`, and answers what stands behind the closing quote, or `None` where there
 // is no text. Each run between two escapes is appended in one piece.
 fn read_escaped<'a>(text: &'a [u8], content: &mut Vec<u8>) -> Result<Option<&'a [u8]>, NoMemory>
-    ensures { IfOk result (λ found. MatchOption found (front_of true text.now ≡ None) (λ after. and_front content.old.items (front_of true text.now) ≡ Some (content.new.items, after.now))) }
+    ensures { IfOk result (ReadsEscaped text.now content.old.items content.new.items) }
 {
     let mut rest = text;
     while let Some((escaped, more)) = behind_backslash(rest) {
@@ -45,23 +43,25 @@ fn read_escaped<'a>(text: &'a [u8], content: &mut Vec<u8>) -> Result<Option<&'a 
     Ok(None)
 }
 
-/// The content of the text whose opening quote is read, and what stands behind its closing quote, or `None`
-/// where there is no text. A text without escapes is read in one piece.
-pub(crate) fn front_content(
-    alloc: Global,
-    text: &[u8],
-) -> Result<Option<(Vec<u8>, &[u8])>, NoMemory>
-    ensures { IfOk result (λ found. option_map (λ front. (front.0.items, front.1.now)) found ≡ front_of false text.now) }
+/// Puts the content of the text whose opening quote is read into `content`, in the place of what that held, and
+/// answers what stands behind its closing quote, or `None` where there is no text. Each run between two escapes
+/// is copied in one piece. Takes no memory but the room of `content`.
+pub(crate) fn front_content<'a>(
+    text: &'a [u8],
+    content: &mut Vec<u8>,
+) -> Result<Option<&'a [u8]>, NoMemory>
+    ensures { IfOk result (ReadsContent text.now content.new.items) }
 {
     let Some((run, byte, after)) = next_escape(text) else {
         return Ok(None);
     };
-    let mut content = Vec::from_slice(alloc, run)?;
+    content.clear();
+    content.extend_from_slice(run)?;
     if byte == b'"' {
-        return Ok(Some((content, after)));
+        return Ok(Some(after));
     }
-    match read_escaped(after, &mut content)? {
-        Some(behind) => Ok(Some((content, behind))),
+    match read_escaped(after, content)? {
+        Some(behind) => Ok(Some(behind)),
         None => Ok(None),
     }
 }

@@ -1,9 +1,10 @@
-ghost use Rattle.std.specs.Prelude.{◌≡◌, ◌≢◌, ◌+◌, ◌<◌, [], ◌∷◌, length, take, drop, nat_le, slice_index, Ok, Some, MatchOption};
+ghost use Rattle.std.specs.Prelude.{◌≡◌, ◌≢◌, ◌+◌, ◌<◌, [], ◌∷◌, length, take, drop, nat_le, slice_index};
 ghost use Rattle.cow_model.specs.Lexis as spec;
 ghost use Rattle.cow_model.specs.Lexis.{tokens_of};
 ghost use Rattle.cow_model.specs.declared.reading.Quoting.TheVariants.{Start, Plain};
 ghost use Rattle.cow_model.specs.declared.plain.Literal.TheVariants as literal;
-ghost use Rattle.cow_lexis.specs.Cuts.{behind_token, cut_len, first_token};
+ghost use Rattle.cow_lexis.specs.Cuts.{behind_token, cut_len, first_token, NextToken};
+ghost use Rattle.cow_lexis.specs.Fronts.{TakesAtom, TakesToken};
 ghost use Rattle.cow_lexis.specs.Reads.{Reads, atom_ahead};
 
 use crate::atoms::{front_atom, front_int, front_plain_text};
@@ -111,7 +112,7 @@ fn without_spaces(line: &[u8]) -> &[u8]
 
 // The first token of a line, and what stands behind it.
 fn next_token(line: &[u8]) -> Option<(&[u8], &[u8])>
-    ensures { MatchOption result (tokens_of line.now ≡ []) (λ cut. tokens_of line.now ≡ cut.0.now ∷ tokens_of cut.1.now) }
+    ensures { NextToken line.now result }
 {
     let line = without_spaces(line);
     if line.is_empty() {
@@ -130,7 +131,7 @@ impl<'a> Tokens<'a> {
 
     /// The next token. Linear in its bytes and the spaces before it.
     pub fn next(&mut self) -> Option<&'a [u8]>
-        ensures { MatchOption result ((self.old ≡ []) × (self.new ≡ [])) (λ token. self.old ≡ token.now ∷ self.new) }
+        ensures { TakesToken self.old result self.new }
     {
         let (token, after) = next_token(self.rest)?;
         self.rest = after;
@@ -140,7 +141,7 @@ impl<'a> Tokens<'a> {
     // The next token where it is an integer; else nothing is taken.
     #[inline(always)]
     fn next_integer(&mut self) -> Option<i64>
-        ensures { MatchOption result (self.new ≡ self.old) (λ x. atom_ahead self.old ≡ Ok (Some (literal.Int x), self.new)) }
+        ensures { TakesAtom literal.Int self.old result self.new }
     {
         let line = without_spaces(self.rest);
         if line.is_empty() || line[0] == b'"' {
@@ -154,7 +155,7 @@ impl<'a> Tokens<'a> {
     // The content of the next token where it is a text without escapes; else nothing is taken.
     #[inline(always)]
     fn next_plain_text(&mut self) -> Option<&'a [u8]>
-        ensures { MatchOption result (self.new ≡ self.old) (λ content. atom_ahead self.old ≡ Ok (Some (literal.Text content.now), self.new)) }
+        ensures { TakesAtom (λ content. literal.Text content.now) self.old result self.new }
     {
         let line = without_spaces(self.rest);
         if line.is_empty() {
@@ -167,7 +168,7 @@ impl<'a> Tokens<'a> {
 
     // The atom that the next token is, or `None` where there is no token.
     #[inline(never)]
-    fn next_other(&mut self, alloc: Global) -> Result<Option<Literal>, Stop>
+    fn next_other(&mut self, alloc: Global, content: &mut Vec<u8>) -> Result<Option<Literal>, Stop>
         ensures { Reads (atom_ahead self.old) result self.new }
     {
         let line = without_spaces(self.rest);
@@ -175,28 +176,32 @@ impl<'a> Tokens<'a> {
             self.rest = line;
             return Ok(None);
         }
-        let (atom, after) = front_atom(alloc, line)?;
+        let (atom, after) = front_atom(alloc, line, content)?;
         self.rest = after;
         Ok(Some(atom))
     }
 
-    /// The atom that the next token is, or `None` where there is no token. Each byte is read once, and
-    /// only the content of a text takes memory.
+    /// The atom that the next token is, or `None` where there is no token. A text up to its first escape
+    /// is read twice, and else each byte once. Only a text takes memory: one block where it has more than 30
+    /// bytes, and the room of `content`, which holds nothing that is used again, where it has an escape.
     ///
     /// Errors: `Flaw` exactly as `atom_of` says of the token; `NoMemory`. After either, which tokens are left
     /// is not said.
     #[inline(always)]
-    pub fn next_atom(&mut self, alloc: Global) -> Result<Option<Literal>, Stop>
+    pub fn next_atom(
+        &mut self,
+        alloc: Global,
+        content: &mut Vec<u8>,
+    ) -> Result<Option<Literal>, Stop>
         ensures { Reads (atom_ahead self.old) result self.new }
     {
         if let Some(x) = self.next_integer() {
             return Ok(Some(Literal::Int(x)));
         }
         if let Some(content) = self.next_plain_text() {
-            let bytes = Bytes::from_vec(Vec::from_slice(alloc, content)?);
-            return Ok(Some(Literal::Text(bytes)));
+            return Ok(Some(Literal::Text(Bytes::from_slice(alloc, content)?)));
         }
-        Ok(self.next_other(alloc)?)
+        Ok(self.next_other(alloc, content)?)
     }
 
     /// Whether three tokens are left at least. Reads those three alone.

@@ -17,12 +17,12 @@ use Rattle.cow_model.specs.Lazy.{view}
 use Rattle.cow_model.specs.Lexis.{Text}
 use Rattle.cow_model.specs.Operation as operation
 use Rattle.cow_model.specs.Operation.{Answer, index}
-use Rattle.cow_model.specs.Plain.{count, size, max_count}
+use Rattle.cow_model.specs.Plain.{count, max_count}
 use Rattle.cow_model.specs.Printed.{line, plain_text, list_text}
 use Rattle.cow_model.specs.Query.{Told}
 use Rattle.cow_model.specs.Sharing.{Layer, literals, both_cost}
 use Rattle.cow_model.specs.Step.{settles, with_found, with_entry, second_in, sliced, print_in, told, told_both, becomes, as_changed, view_in, shape_of, through, lazy_at, act, step}
-use Rattle.cow_model.specs.Turns.{turn_of}
+use Rattle.cow_model.specs.Turns.{turn_of, added_of}
 use Rattle.cow_model.proofs.Costs.{cost-most, both-most}
 use Rattle.cow_model.proofs.Counts.{size-count}
 use Rattle.cow_model.proofs.StepParts.{Parts, changing-holds}
@@ -94,14 +94,16 @@ by-cost true e = both-most false e.value
 by-cost false e = both-most e.alone e.value
 
 -- what is added of the other value
-adds-most : (adds : Bool) (v : Plain) → (if adds then size v else 0) ≤ 2 * count v
-adds-most true v = size-count v
-adds-most false v = omega arith
+adds-most : (s : Layer) (v : Plain) → added_of s v ≤ 2 * count v
+adds-most (Statement-F.Inter l n m) v = omega arith
+adds-most (Statement-F.Minus l n m) v = omega arith
+adds-most (Statement-F.Within l n m) v = omega arith
+adds-most s v = size-count v
 
 -- the cost of a change by another value, and what is added of that
-costs-by : (name other : Text) (adds : Bool) (e f : Entry) → count e.value ≤ max_count → count f.value ≤ max_count
-    → both_cost (as_changed name other e) + (if adds then size f.value else 0) ≤ 4 * max_count
-costs-by name other adds e f small also = omega (arith, by-cost (bytes_eq name other) e, adds-most adds f.value, small, also)
+costs-by : (s : Layer) (name other : Text) (e f : Entry) → count e.value ≤ max_count → count f.value ≤ max_count
+    → both_cost (as_changed name other e) + added_of s f.value ≤ 4 * max_count
+costs-by s name other e f small also = omega (arith, by-cost (bytes_eq name other) e, adds-most s f.value, small, also)
 
 module _ (env : Environment) (small : Values (λ v. count v ≤ max_count) env.names) where
   -- a statement on the entry of a name
@@ -120,7 +122,7 @@ module _ (env : Environment) (small : Values (λ v. count v ≤ max_count) env.n
     asks = λ name tells. on-entry name _ (λ e few. tell env (tells e.value));
     asks_both = λ name other tells. on-entry name _ (λ e few. on-entry other _ (λ f also. tell-both env name other (tells e.value f.value)));
     turns = λ s name. on-entry name _ (λ e few. become env name _ _ _ (costs s e.alone e.value few));
-    turns_by = λ s name other adds. on-entry name _ (λ e few. on-entry other _ (λ f also. become env name _ _ _ (costs-by name other adds e f few also)));
+    turns_by = λ s name other. on-entry name _ (λ e few. on-entry other _ (λ f also. become env name _ _ _ (costs-by s name other e f few also)));
   }
 
   -- what a statement does once its literals are allowed
@@ -130,7 +132,6 @@ module _ (env : Environment) (small : Values (λ v. count v ≤ max_count) env.n
   act-rises shapes (Statement-F.Slice l n m i j) = on-entry m _ (λ e few. cut env n m (operation.slice i j e.value))
   act-rises shapes (Statement-F.Discard l n) = on-entry n _ (λ e few. omega arith)
   act-rises shapes (Statement-F.Show l n) = on-entry n _ (λ e few. print env (line (plain_text e.value)))
-  act-rises shapes (Statement-F.Pop l n side) = parts.turns (Statement-F.Pop l n side) n
   act-rises shapes (Statement-F.Lazy l n i verb) = on-entry n _ (λ e few. see-at env shapes n i verb e.value few)
   act-rises shapes s = changing-holds (Rises env) env parts s
 

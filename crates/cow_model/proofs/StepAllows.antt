@@ -24,97 +24,96 @@ use Rattle.cow_model.specs.Step.{settles, with_found, with_entry, second_in, sli
 use Rattle.cow_model.proofs.StepParts.{Parts, changing-holds}
 
 -- no fewer copies are allowed afterwards
-abbrev pub Keeps : Environment → Outcome → Type 0
-Keeps env out = env.allowed ≤ out.env.allowed
+abbrev pub Allows : Environment → Outcome → Type 0
+Allows env out = env.allowed ≤ out.env.allowed
 
 -- one of two outcomes
-pub either_keeps : (env : Environment) (b : Bool) (x y : Outcome) → Keeps env x → Keeps env y → Keeps env (if b then x else y)
-either_keeps env true x y p q = p
-either_keeps env false x y p q = q
+pub either_allows : (env : Environment) (b : Bool) (x y : Outcome) → Allows env x → Allows env y → Allows env (if b then x else y)
+either_allows env true x y p q = p
+either_allows env false x y p q = q
 
 -- an entry that has to be there
-found_keeps : (env : Environment) (e : Option Entry) (run : Entry → Outcome) → ((e : Entry) → Keeps env (run e)) → Keeps env (with_found env e run)
-found_keeps env None run h = omega arith
-found_keeps env (Some e) run h = h e
+found_allows : (env : Environment) (e : Option Entry) (run : Entry → Outcome) → ((e : Entry) → Allows env (run e)) → Allows env (with_found env e run)
+found_allows env None run h = omega arith
+found_allows env (Some e) run h = h e
 
 -- the entry of a name
-entry_keeps : (env : Environment) (name : Text) (run : Entry → Outcome) → ((e : Entry) → Keeps env (run e)) → Keeps env (with_entry env name run)
-entry_keeps env name run h = found_keeps env (entry_of name env.names) run h
+entry_allows : (env : Environment) (name : Text) (run : Entry → Outcome) → ((e : Entry) → Allows env (run e)) → Allows env (with_entry env name run)
+entry_allows env name run h = found_allows env (entry_of name env.names) run h
 
 -- ---- statements that are no fork
 
 -- a second value made of another
-second_keeps : (env : Environment) (name other : Text) (value : Plain) → Keeps env (second_in env name other value)
-second_keeps env name other value = either_keeps env (has_place name env.names) _ _ (omega arith) (omega arith)
+second_allows : (env : Environment) (name other : Text) (value : Plain) → Allows env (second_in env name other value)
+second_allows env name other value = either_allows env (has_place name env.names) _ _ (omega arith) (omega arith)
 
 -- a slice
-sliced_keeps : (env : Environment) (name other : Text) (answer : Answer) → Keeps env (sliced env name other answer)
-sliced_keeps env name other (Err why) = omega arith
-sliced_keeps env name other (Ok done) = second_keeps env name other done.value
+sliced_allows : (env : Environment) (name other : Text) (answer : Answer) → Allows env (sliced env name other answer)
+sliced_allows env name other (Err why) = omega arith
+sliced_allows env name other (Ok done) = second_allows env name other done.value
 
 -- a line that uses room
-print_keeps : (env : Environment) (text : Text) → Keeps env (print_in env text)
-print_keeps env text = either_keeps env (nat_lt env.room (length text)) _ _ (omega arith) (omega arith)
+print_allows : (env : Environment) (text : Text) → Allows env (print_in env text)
+print_allows env text = either_allows env (nat_lt env.room (length text)) _ _ (omega arith) (omega arith)
 
 -- a line that was told
-told_keeps : (env : Environment) (answer : Told) → Keeps env (told env answer)
-told_keeps env (Err why) = omega arith
-told_keeps env (Ok text) = omega arith
+told_allows : (env : Environment) (answer : Told) → Allows env (told env answer)
+told_allows env (Err why) = omega arith
+told_allows env (Ok text) = omega arith
 
 -- one of two environments
-either_allows : (env : Environment) (b : Bool) (x y : Environment) → env.allowed ≤ x.allowed → env.allowed ≤ y.allowed → env.allowed ≤ (if b then x else y).allowed
-either_allows env true x y p q = p
-either_allows env false x y p q = q
+either_env : (env : Environment) (b : Bool) (x y : Environment) → env.allowed ≤ x.allowed → env.allowed ≤ y.allowed → env.allowed ≤ (if b then x else y).allowed
+either_env env true x y p q = p
+either_env env false x y p q = q
 
 -- what two values told
-told_both_keeps : (env : Environment) (name other : Text) (answer : Told) → Keeps env (told_both env name other answer)
-told_both_keeps env name other (Err why) = omega arith
-told_both_keeps env name other (Ok text) = either_allows env (bytes_eq name other) (settles name env) env (omega arith) (omega arith)
+told_both_allows : (env : Environment) (name other : Text) (answer : Told) → Allows env (told_both env name other answer)
+told_both_allows env name other (Err why) = omega arith
+told_both_allows env name other (Ok text) = either_env env (bytes_eq name other) (settles name env) env (omega arith) (omega arith)
 
 -- a name's value becomes another
-becomes_keeps : (env : Environment) (name : Text) (n : ℕ) (alone : Plain → Bool) (answer : Answer) → Keeps env (becomes env name n alone answer)
-becomes_keeps env name n alone (Err why) = omega arith
-becomes_keeps env name n alone (Ok done) = omega arith
+becomes_allows : (env : Environment) (name : Text) (n : ℕ) (alone : Plain → Bool) (answer : Answer) → Allows env (becomes env name n alone answer)
+becomes_allows env name n alone (Err why) = omega arith
+becomes_allows env name n alone (Ok done) = omega arith
 
 -- `lazy N I VERB` of these atoms
-view_keeps : (env : Environment) (name : Text) (items seen : List Literal) (asked : Verb) → Keeps env (view_in env name items seen asked)
-view_keeps env name items seen verb.First = omega arith
-view_keeps env name items seen verb.Show = either_keeps env (nat_lt env.room (length (line (list_text seen)))) _ _ (omega arith) (omega arith)
-view_keeps env name items seen verb.Count = omega arith
+view_allows : (env : Environment) (name : Text) (items seen : List Literal) (asked : Verb) → Allows env (view_in env name items seen asked)
+view_allows env name items seen verb.First = omega arith
+view_allows env name items seen verb.Show = either_allows env (nat_lt env.room (length (line (list_text seen)))) _ _ (omega arith) (omega arith)
+view_allows env name items seen verb.Count = omega arith
 
 -- a lazy statement through a rule
-through_keeps : (env : Environment) (name : Text) (asked : Verb) (items : List Literal) (shape : Option Shape) → Keeps env (through env name asked items shape)
-through_keeps env name asked items None = omega arith
-through_keeps env name asked items (Some shape) = view_keeps env name items (view shape items) asked
+through_allows : (env : Environment) (name : Text) (asked : Verb) (items : List Literal) (shape : Option Shape) → Allows env (through env name asked items shape)
+through_allows env name asked items None = omega arith
+through_allows env name asked items (Some shape) = view_allows env name items (view shape items) asked
 
 -- a lazy statement on a value
-lazy_at_keeps : (env : Environment) (shapes : List Shape) (name : Text) (i : ℤ) (asked : Verb) (value : Plain) → Keeps env (lazy_at env shapes name i asked value)
-lazy_at_keeps env shapes name i asked (Array items) = through_keeps env name asked items (shape_of shapes (index 0 (length shapes) i))
-lazy_at_keeps env shapes name i asked value = omega arith
+lazy_at_allows : (env : Environment) (shapes : List Shape) (name : Text) (i : ℤ) (asked : Verb) (value : Plain) → Allows env (lazy_at env shapes name i asked value)
+lazy_at_allows env shapes name i asked (Array items) = through_allows env name asked items (shape_of shapes (index 0 (length shapes) i))
+lazy_at_allows env shapes name i asked value = omega arith
 
 -- ---- statements
 
 -- a statement that changes values, or reads
-parts_keep : (env : Environment) → Parts (Keeps env) env
-parts_keep env = record {
+parts_allow : (env : Environment) → Parts (Allows env) env
+parts_allow env = record {
   still = omega arith;
-  asks = λ name tells. entry_keeps env name _ (λ e. told_keeps env (tells e.value));
-  asks_both = λ name other tells. entry_keeps env name _ (λ e. entry_keeps env other _ (λ f. told_both_keeps env name other (tells e.value f.value)));
-  turns = λ s name. entry_keeps env name _ (λ e. becomes_keeps env name _ _ _);
-  turns_by = λ s name other adds. entry_keeps env name _ (λ e. entry_keeps env other _ (λ f. becomes_keeps env name _ _ _));
+  asks = λ name tells. entry_allows env name _ (λ e. told_allows env (tells e.value));
+  asks_both = λ name other tells. entry_allows env name _ (λ e. entry_allows env other _ (λ f. told_both_allows env name other (tells e.value f.value)));
+  turns = λ s name. entry_allows env name _ (λ e. becomes_allows env name _ _ _);
+  turns_by = λ s name other. entry_allows env name _ (λ e. entry_allows env other _ (λ f. becomes_allows env name _ _ _));
 }
 
 -- what a statement does once its literals are allowed
-act_keeps : (env : Environment) (shapes : List Shape) (s : Layer) → Keeps env (act env shapes s)
-act_keeps env shapes (Statement-F.Let l n kind atoms) = either_keeps env (has_place n env.names) _ _ (omega arith) (omega arith)
-act_keeps env shapes (Statement-F.Assign l n m) = entry_keeps env m _ (λ e. second_keeps env n m e.value)
-act_keeps env shapes (Statement-F.Slice l n m i j) = entry_keeps env m _ (λ e. sliced_keeps env n m (operation.slice i j e.value))
-act_keeps env shapes (Statement-F.Discard l n) = entry_keeps env n _ (λ e. omega arith)
-act_keeps env shapes (Statement-F.Show l n) = entry_keeps env n _ (λ e. print_keeps env (line (plain_text e.value)))
-act_keeps env shapes (Statement-F.Pop l n side) = (parts_keep env).turns (Statement-F.Pop l n side) n
-act_keeps env shapes (Statement-F.Lazy l n i verb) = entry_keeps env n _ (λ e. lazy_at_keeps env shapes n i verb e.value)
-act_keeps env shapes s = changing-holds (Keeps env) env (parts_keep env) s
+act_allows : (env : Environment) (shapes : List Shape) (s : Layer) → Allows env (act env shapes s)
+act_allows env shapes (Statement-F.Let l n kind atoms) = either_allows env (has_place n env.names) _ _ (omega arith) (omega arith)
+act_allows env shapes (Statement-F.Assign l n m) = entry_allows env m _ (λ e. second_allows env n m e.value)
+act_allows env shapes (Statement-F.Slice l n m i j) = entry_allows env m _ (λ e. sliced_allows env n m (operation.slice i j e.value))
+act_allows env shapes (Statement-F.Discard l n) = entry_allows env n _ (λ e. omega arith)
+act_allows env shapes (Statement-F.Show l n) = entry_allows env n _ (λ e. print_allows env (line (plain_text e.value)))
+act_allows env shapes (Statement-F.Lazy l n i verb) = entry_allows env n _ (λ e. lazy_at_allows env shapes n i verb e.value)
+act_allows env shapes s = changing-holds (Allows env) env (parts_allow env) s
 
 -- a statement that is no fork allows its literals at least
 pub step_allows : (env : Environment) (shapes : List Shape) (s : Layer) → env.allowed + literals s ≤ (step env shapes s).env.allowed
-step_allows env shapes s = act_keeps (allow (literals s) env) shapes s
+step_allows env shapes s = act_allows (allow (literals s) env) shapes s

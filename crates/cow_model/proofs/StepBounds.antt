@@ -16,7 +16,7 @@ use Rattle.cow_model.specs.Plain.{count, stop, max_count}
 use Rattle.cow_model.specs.Sharing.{Layer, literals}
 use Rattle.cow_model.specs.Step.{step}
 use Rattle.cow_model.proofs.Counts.{turn-small, turn_by-small, made-small, slice-small}
-use Rattle.cow_model.proofs.Steps.{Values, Leads, step-keeps}
+use Rattle.cow_model.proofs.Steps.{Values, Leads, step-leaves}
 use Rattle.cow_model.proofs.Stops.{turn-near, turn_by-near}
 
 -- at most 65,536 elements
@@ -103,10 +103,10 @@ near-leads n room = record {
 -- after a statement that is no fork each value has at most 65,536 elements, where each has before it
 pub step-small : (env : Environment) (shapes : List Shape) (s : Layer)
     → literals s ≤ max_count → Values Small env.names → Values Small (step env shapes s).env.names
-step-small = step-keeps Small Small small-leads
+step-small = step-leaves Small Small small-leads
 
 -- the last element of each value stands at most one index further, or below 65,536
 pub step-near : (n : ℕ) → max_count + n ≤ 2 ^ 31 → (env : Environment) (shapes : List Shape) (s : Layer)
     → literals s ≤ max_count → Values Small env.names → Values (Near (suc n)) env.names → Values (Near n) (step env shapes s).env.names
 step-near n room env shapes s few small near =
-    step-keeps (λ v. Small v × Near (suc n) v) (Near n) (near-leads n room) env shapes s few (λ k d lt. (small k d lt, near k d lt))
+    step-leaves (λ v. Small v × Near (suc n) v) (Near n) (near-leads n room) env shapes s few (λ k d lt. (small k d lt, near k d lt))

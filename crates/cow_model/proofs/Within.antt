@@ -9,7 +9,7 @@ use Rattle.cow_model.specs.Env.{has_place, start}
 use Rattle.cow_model.specs.Sharing.{Layer, literals}
 use Rattle.cow_model.specs.Run.{run_layer, run_one, env_after, bound, least_layer, least_from, least}
 use Rattle.cow_model.proofs.StepAllows.{step_allows}
-use Rattle.cow_model.proofs.ForkAllows.{fork_keeps}
+use Rattle.cow_model.proofs.ForkAllows.{fork_allows}
 
 -- a number, or none
 number_or_none : (b : Bool) (n : ℕ) → (if b then n else 0) ≤ n
@@ -23,7 +23,7 @@ least_literals env s = omega arith
 
 -- a statement of the main block allows its literals at least
 layer_allows : (env : Environment) (shapes : List Shape) (s : Layer) → env.allowed + literals s ≤ (run_layer env shapes s).env.allowed
-layer_allows env shapes (Statement-F.Fork l tasks) = omega (arith, fork_keeps env shapes tasks)
+layer_allows env shapes (Statement-F.Fork l tasks) = omega (arith, fork_allows env shapes tasks)
 layer_allows env shapes s = step_allows env shapes s
 
 -- statements in turn allow what they make, at least

@@ -1,5 +1,6 @@
--- What a statement makes of values, by the statement: the tables of its definitions.
-use Rattle.std.specs.Prelude.{Bool, false, Ok, Err}
+-- What a statement makes of values, by the statement: the tables of its definitions, and of the names that they are run on.
+use Rattle.std.specs.Prelude.{Bool, false, Option, Some, None, Ok, Err}
+use Rattle.cow_model.specs.Lexis.{Text}
 use Rattle.cow_model.specs.Operation as operation
 use Rattle.cow_model.specs.Query as query
 use Rattle.cow_model.specs.Sharing.{Layer}
@@ -54,6 +55,56 @@ query_both_of (Statement-F.Subset l n m) = query.subset
 query_both_of (Statement-F.Disjoint l n m) = query.disjoint
 query_both_of (Statement-F.Equal l n m) = query.equal
 query_both_of s = λ value other. query.wrong
+
+-- the name whose value a statement changes, where it is one that changes one value
+abbrev pub changed_name : Layer → Option Text
+changed_name (Statement-F.Append l n a) = Some n
+changed_name (Statement-F.Prepend l n a) = Some n
+changed_name (Statement-F.Insert l n a) = Some n
+changed_name (Statement-F.InsertAt l n i a) = Some n
+changed_name (Statement-F.Update l n a) = Some n
+changed_name (Statement-F.Remove l n x) = Some n
+changed_name (Statement-F.RemoveAt l n i) = Some n
+changed_name (Statement-F.Set l n i a) = Some n
+changed_name (Statement-F.Pop l n side) = Some n
+changed_name (Statement-F.Replace l n side a) = Some n
+changed_name (Statement-F.Swap l n i j) = Some n
+changed_name (Statement-F.Reverse l n) = Some n
+changed_name (Statement-F.Rotate l n c) = Some n
+changed_name (Statement-F.Splice l n i j atoms) = Some n
+changed_name (Statement-F.Reserve l n c) = Some n
+changed_name (Statement-F.Clear l n) = Some n
+changed_name (Statement-F.Rebase l n) = Some n
+changed_name (Statement-F.Put l n k v) = Some n
+changed_name s = None
+
+-- the name whose value a statement changes by another's, and that other, where it is one of these
+abbrev pub changed_names : Layer → Option (Text × Text)
+changed_names (Statement-F.Extend l n m) = Some (n, m)
+changed_names (Statement-F.Union l n m) = Some (n, m)
+changed_names (Statement-F.Inter l n m) = Some (n, m)
+changed_names (Statement-F.Minus l n m) = Some (n, m)
+changed_names (Statement-F.SymDiff l n m) = Some (n, m)
+changed_names (Statement-F.Merge l n m take) = Some (n, m)
+changed_names (Statement-F.Within l n m) = Some (n, m)
+changed_names s = None
+
+-- the name whose value a statement reads, where it is one that reads one value
+abbrev pub asked_name : Layer → Option Text
+asked_name (Statement-F.Count l n) = Some n
+asked_name (Statement-F.Get l n x) = Some n
+asked_name (Statement-F.At l n i) = Some n
+asked_name (Statement-F.Has l n a) = Some n
+asked_name (Statement-F.Place l n a) = Some n
+asked_name (Statement-F.Peek l n side) = Some n
+asked_name s = None
+
+-- the two names whose values a statement reads, where it is one of these
+abbrev pub asked_names : Layer → Option (Text × Text)
+asked_names (Statement-F.Subset l n m) = Some (n, m)
+asked_names (Statement-F.Disjoint l n m) = Some (n, m)
+asked_names (Statement-F.Equal l n m) = Some (n, m)
+asked_names s = None
 
 -- a flag that depends on the value after a statement; none where that is refused
 abbrev pub flag_of : (Plain → Bool) → operation.Answer → Bool

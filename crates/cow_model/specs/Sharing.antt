@@ -61,19 +61,7 @@ pop_cost_of side alone v = own_cost_of alone v
 abbrev pub both_cost_of : Bool → Plain → ℕ
 both_cost_of alone v = if is_tree v then size v else own_cost_of alone v
 
--- what a change of an entry's value allows
-abbrev pub own_cost : Entry → ℕ
-own_cost e = own_cost_of e.alone e.value
-
--- a change of one key of it
-abbrev pub key_cost : Literal → Entry → ℕ
-key_cost a e = key_cost_of a e.alone e.value
-
--- `pop`
-abbrev pub pop_cost : Side → Entry → ℕ
-pop_cost side e = pop_cost_of side e.alone e.value
-
--- a change of it by another value
+-- a change of an entry's value by another
 abbrev pub both_cost : Entry → ℕ
 both_cost e = both_cost_of e.alone e.value
 
@@ -85,11 +73,3 @@ pop_parts side v = true
 -- whether a value is alone after a change: it was, or it differs and the change parts it
 abbrev pub alone_if : Bool → Bool → Plain → Plain → Bool
 alone_if parts alone v v' = alone || parts && not (same_plain v v')
-
--- whether an entry is alone after a change
-abbrev pub alone_after : Entry → Plain → Bool
-alone_after e value = alone_if true e.alone e.value value
-
--- whether it is after `pop`
-abbrev pub alone_after_pop : Side → Entry → Plain → Bool
-alone_after_pop side e value = alone_if (pop_parts side e.value) e.alone e.value value

@@ -4,20 +4,18 @@ use Rattle.std.specs.Str.{bytes_eq}
 use Rattle.std.specs.Fmt.{decimal}
 use Rattle.cow_model.specs.Lexis.{Text}
 use Rattle.cow_model.specs.Printed.{line, atom_text, list_text, plain_text, nil_or, refusal}
-use Rattle.cow_model.specs.Plain.{size}
 use Rattle.cow_model.specs.Operation as operation
-use Rattle.cow_model.specs.Operation.{Answer, fitting, index}
-use Rattle.cow_model.specs.Query as query
+use Rattle.cow_model.specs.Operation.{Answer, index}
+use Rattle.cow_model.specs.Changes.{changed_name, changed_names, asked_name, asked_names, query_of, query_both_of}
 use Rattle.cow_model.specs.Query.{Told}
 use Rattle.cow_model.specs.Env.{entry_of, has_place, given, without, settled, shared, renamed, allow}
 use Rattle.cow_model.specs.Sharing.{Layer, literals, both_cost}
 use Rattle.cow_model.specs.Lazy.{view}
-use Rattle.cow_model.specs.Turns.{Turn, whole, keyed, popping, alone_after}
+use Rattle.cow_model.specs.Turns.{Turn, turn_of, turn_by_of, added_of, alone_after}
 use Rattle.cow_model.specs.declared.plain.Literal.{Literal}
 use Rattle.cow_model.specs.declared.value.Plain.{Plain}
 use Rattle.cow_model.specs.declared.value.Plain.TheVariants.{Array}
 use Rattle.cow_model.specs.declared.shape.Shape.{Shape}
-use Rattle.cow_model.specs.declared.statement.Side.{Side}
 use Rattle.cow_model.specs.declared.statement.Verb.{Verb}
 use Rattle.cow_model.specs.declared.statement.Verb.TheVariants as verb
 use Rattle.cow_model.specs.declared.statement.Statement.TheOpen.{Statement-F}
@@ -114,29 +112,17 @@ becomes env name n alone (Ok done) = record { env = allow n (gives name done.val
 abbrev pub turned : Environment → Text → Turn → Outcome
 turned env name t = with_entry env name (λ e. becomes env name (t.cost e.alone e.value) (alone_after t e.alone e.value) (t.run e.value))
 
--- a statement that changes one value
-abbrev pub change : Environment → Text → (Plain → Answer) → Outcome
-change env name run = turned env name (whole run)
-
--- a statement that changes one key
-abbrev pub change_key : Environment → Text → Literal → (Plain → Answer) → Outcome
-change_key env name key run = turned env name (keyed key run)
-
--- `pop N END`
-abbrev pub pop_in : Environment → Text → Side → Outcome
-pop_in env name side = turned env name (popping side)
-
 -- N as a change by M takes it: not alone where it is M itself
 abbrev pub as_changed : Text → Text → Entry → Entry
 as_changed name other e = if bytes_eq name other then shared e else e
 
--- a statement that changes N's value by M's, of which elements are added where `adds` is true
-abbrev pub change_by : Environment → Text → Text → Bool → (Plain → Plain → Answer) → Outcome
-change_by env name other adds run =
+-- the row of a change by another value, done to two names: one name for both isn't alone, before and after
+abbrev pub turned_by : Environment → Text → Text → Layer → Outcome
+turned_by env name other s =
     with_entry env name (λ e. with_entry env other (λ f.
-    becomes env name (both_cost (as_changed name other e) + (if adds then size f.value else 0))
-    (λ value. not (bytes_eq name other) && alone_after (whole (λ v. run v f.value)) e.alone e.value value)
-    (fitting (run e.value f.value))))
+    becomes env name (both_cost (as_changed name other e) + added_of s f.value)
+    (λ value. not (bytes_eq name other) && alone_after (turn_by_of s f.value) e.alone e.value value)
+    ((turn_by_of s f.value).run e.value)))
 
 -- a lazy statement leaves its array not alone, and allows so many copies
 abbrev pub looked : Environment → Text → ℕ → Environment
@@ -167,50 +153,37 @@ lazy_at env shapes name i verb value = refused env WrongKind
 abbrev pub lazy_in : Environment → List Shape → Text → ℤ → Verb → Outcome
 lazy_in env shapes name i verb = with_entry env name (λ e. lazy_at env shapes name i verb e.value)
 
--- what a statement that reads values does; any other does nothing
+-- what a statement that reads two values does; any other does nothing
+abbrev pub asking_both : Environment → Layer → Option (Text × Text) → Outcome
+asking_both env s (Some (n, m)) = ask_both env n m (query_both_of s)
+asking_both env s None = quiet env
+
+-- what one that reads one value does; any other is left to the above
+abbrev pub asking_one : Environment → Layer → Option Text → Outcome
+asking_one env s (Some n) = ask env n (query_of s)
+asking_one env s None = asking_both env s (asked_names s)
+
+-- what a statement that reads values does
 abbrev pub asking : Environment → Layer → Outcome
-asking env (Statement-F.Count l n) = ask env n query.count_of
-asking env (Statement-F.Get l n x) = ask env n (query.get x)
-asking env (Statement-F.At l n i) = ask env n (query.at i)
-asking env (Statement-F.Has l n a) = ask env n (query.has a)
-asking env (Statement-F.Place l n a) = ask env n (query.place a)
-asking env (Statement-F.Peek l n side) = ask env n (query.peek side)
-asking env (Statement-F.Subset l n m) = ask_both env n m query.subset
-asking env (Statement-F.Disjoint l n m) = ask_both env n m query.disjoint
-asking env (Statement-F.Equal l n m) = ask_both env n m query.equal
-asking env s = quiet env
+asking env s = asking_one env s (asked_name s)
 
--- what a statement that changes one value by another does; any other is left to those that read
+-- what one that changes a value by another does; any other is left to those that read
+abbrev pub changing_two : Environment → Layer → Option (Text × Text) → Outcome
+changing_two env s (Some (n, m)) = turned_by env n m s
+changing_two env s None = asking env s
+
+-- what a statement that changes a value by another does, or reads
 abbrev pub changing_by : Environment → Layer → Outcome
-changing_by env (Statement-F.Extend l n m) = change_by env n m true operation.extend
-changing_by env (Statement-F.Union l n m) = change_by env n m true operation.union
-changing_by env (Statement-F.Inter l n m) = change_by env n m false operation.inter
-changing_by env (Statement-F.Minus l n m) = change_by env n m false operation.minus
-changing_by env (Statement-F.SymDiff l n m) = change_by env n m true operation.symdiff
-changing_by env (Statement-F.Merge l n m take) = change_by env n m true (operation.merge take)
-changing_by env (Statement-F.Within l n m) = change_by env n m false operation.within
-changing_by env s = asking env s
+changing_by env s = changing_two env s (changed_names s)
 
--- what a statement that changes one value does; any other is left to those above
+-- what one that changes one value does; any other is left to the above
+abbrev pub changing_one : Environment → Layer → Option Text → Outcome
+changing_one env s (Some n) = turned env n (turn_of s)
+changing_one env s None = changing_by env s
+
+-- what a statement that changes values does, or reads
 abbrev pub changing : Environment → Layer → Outcome
-changing env (Statement-F.Append l n a) = change env n (operation.append a)
-changing env (Statement-F.Prepend l n a) = change env n (operation.prepend a)
-changing env (Statement-F.Insert l n a) = change_key env n a (operation.insert a)
-changing env (Statement-F.InsertAt l n i a) = change env n (operation.insert_at i a)
-changing env (Statement-F.Update l n a) = change_key env n a (operation.update a)
-changing env (Statement-F.Remove l n x) = change_key env n x (operation.remove x)
-changing env (Statement-F.RemoveAt l n i) = change env n (operation.remove_at i)
-changing env (Statement-F.Set l n i a) = change env n (operation.set i a)
-changing env (Statement-F.Replace l n side a) = change env n (operation.replace side a)
-changing env (Statement-F.Swap l n i j) = change env n (operation.swap i j)
-changing env (Statement-F.Reverse l n) = change env n operation.reversed
-changing env (Statement-F.Rotate l n c) = change env n (operation.rotate c)
-changing env (Statement-F.Splice l n i j atoms) = change env n (operation.splice i j atoms)
-changing env (Statement-F.Reserve l n c) = change env n (operation.reserve c)
-changing env (Statement-F.Clear l n) = change env n operation.clear
-changing env (Statement-F.Rebase l n) = change env n operation.rebase
-changing env (Statement-F.Put l n k v) = change_key env n k (operation.put (record { key = k; value = v }))
-changing env s = changing_by env s
+changing env s = changing_one env s (changed_name s)
 
 -- what a statement does once its literals are allowed
 abbrev pub act : Environment → List Shape → Layer → Outcome
@@ -219,7 +192,6 @@ act env shapes (Statement-F.Assign l n m) = assign_in env n m
 act env shapes (Statement-F.Slice l n m i j) = slice_in env n m i j
 act env shapes (Statement-F.Discard l n) = discard_in env n
 act env shapes (Statement-F.Show l n) = show_in env n
-act env shapes (Statement-F.Pop l n side) = pop_in env n side
 act env shapes (Statement-F.Lazy l n i verb) = lazy_in env shapes n i verb
 act env shapes s = changing env s
 

@@ -12,6 +12,7 @@
 //! - `Lazy`, `Generator`: views of arrays through rules, and the generator of scripts;
 //! - `Fronts`: what may be written of a text when a run stops early;
 //! - `Hash`, `Literals`: the hashes of plain atoms, and what kind of atom one is;
+//! - `Held`: where the bytes of a text stand;
 //! - `Purse`, `Flat`, `Lists`: what a contract says of a holder and of a collection over one storage.
 //!
 //! docs/MEANING.md leads through them. `proofs/Rows` and `proofs/ParseRows` compute worked scripts, so a
@@ -40,6 +41,6 @@ pub use plain::{Bytes, Literal};
 pub use reading::{Due, Quoting, Reading, Standing};
 pub use refusal::Refusal;
 pub use shape::Shape;
-pub use statement::{Capture, Kind, Side, Statement, TaskBlock, Verb};
+pub use statement::{Capture, Kind, Script, Side, Statement, TaskBlock, Verb};
 pub use value::{Pair, Plain};
 pub use word::{AtomWord, Form, NameWord, OtherWord, PlaceWord, SideWord, Word};

@@ -312,3 +312,9 @@ pub enum Statement {
         to: Name,
     },
 }
+
+/// A script as it was read.
+#[derive(Drop)]
+pub struct Script {
+    pub statements: Items<Statement>,
+}

@@ -2,6 +2,7 @@
 ghost use Rattle.std.specs.Prelude.{◌≡◌, IfOk};
 
 use crate::lists::copied;
+use crate::operation::{Listed, Mapped};
 use cow_model::{Bytes, Entry, Literal, Name, NoMemory, Pair, Plain};
 use std::alloc::Global;
 
@@ -32,23 +33,28 @@ impl Whole for Pair {
     }
 }
 
+// A slice, copied.
+fn slice(alloc: Global, start: u64, items: &[Literal]) -> Result<Plain, NoMemory>
+    ensures { IfOk result (λ copy. copy ≡ Plain.Slice start items.now) }
+{
+    let items = copied(alloc, items)?;
+    Ok(Plain::Slice { start, items })
+}
+
 impl Whole for Plain {
     fn whole(&self, alloc: Global) -> Result<Self, NoMemory> {
-        Ok(match self {
-            Plain::Array(items) => Plain::Array(copied(alloc, items.as_slice())?),
-            Plain::Slice { start, items } => Plain::Slice {
-                start: *start,
-                items: copied(alloc, items.as_slice())?,
-            },
-            Plain::Deque(items) => Plain::Deque(copied(alloc, items.as_slice())?),
-            Plain::Set(items) => Plain::Set(copied(alloc, items.as_slice())?),
-            Plain::Dict(pairs) => Plain::Dict(copied(alloc, pairs.as_slice())?),
-            Plain::OSet(items) => Plain::OSet(copied(alloc, items.as_slice())?),
-            Plain::ODict(pairs) => Plain::ODict(copied(alloc, pairs.as_slice())?),
-            Plain::Heap(items) => Plain::Heap(copied(alloc, items.as_slice())?),
-            Plain::TSet(items) => Plain::TSet(copied(alloc, items.as_slice())?),
-            Plain::TDict(pairs) => Plain::TDict(copied(alloc, pairs.as_slice())?),
-        })
+        match self {
+            Plain::Array(items) => Listed::Array.copied(alloc, items.as_slice()),
+            Plain::Slice { start, items } => slice(alloc, *start, items.as_slice()),
+            Plain::Deque(items) => Listed::Deque.copied(alloc, items.as_slice()),
+            Plain::Set(items) => Listed::Set.copied(alloc, items.as_slice()),
+            Plain::Dict(pairs) => Mapped::Dict.copied(alloc, pairs.as_slice()),
+            Plain::OSet(items) => Listed::OSet.copied(alloc, items.as_slice()),
+            Plain::ODict(pairs) => Mapped::ODict.copied(alloc, pairs.as_slice()),
+            Plain::Heap(items) => Listed::Heap.copied(alloc, items.as_slice()),
+            Plain::TSet(items) => Listed::TSet.copied(alloc, items.as_slice()),
+            Plain::TDict(pairs) => Mapped::TDict.copied(alloc, pairs.as_slice()),
+        }
     }
 }
 

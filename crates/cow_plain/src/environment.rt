@@ -76,8 +76,8 @@ pub fn without(name: &[u8], names: Items<Entry>) -> Items<Entry>
     names
 }
 
-/// A copy of an entry whose value isn't taken to be alone.
-pub fn shared(alloc: Global, entry: &Entry) -> Result<Entry, NoMemory>
+// A copy of an entry whose value isn't taken to be alone.
+fn shared(alloc: Global, entry: &Entry) -> Result<Entry, NoMemory>
     ensures { IfOk result (λ made. made ≡ spec.shared entry.now) }
 {
     let name = named(alloc, entry.name.as_slice())?;

@@ -1,14 +1,12 @@
 // Forks: the captures are made, the tasks run one after another, and what they give is assigned.
-ghost use Rattle.std.specs.Prelude.{◌≡◌, ◌++◌, List, IfOk};
+ghost use Rattle.std.specs.Prelude.{◌≡◌, ◌++◌, ◌∷◌, [], List, IfOk};
 ghost use Rattle.cow_model.specs.Env as environment;
 ghost use Rattle.cow_model.specs.Fork as spec;
 ghost use Rattle.cow_model.specs.declared.outcome.Entry.{Entry};
 ghost use Rattle.cow_model.specs.declared.statement.Statement.{out-Statement};
 
 use crate::copies::Whole;
-use crate::environment::{
-    allow, entry_of, given, has_place, named, settled, shared, start_with, without,
-};
+use crate::environment::{allow, entry_of, given, has_place, named, settled, start_with, without};
 use crate::lists::{copied as copied_list, extend};
 use crate::step::step;
 use cow_model::{
@@ -45,7 +43,12 @@ fn copied(alloc: Global, c: Captured, e: Entry) -> Result<Captured, NoMemory>
     ensures { IfOk result (λ made. made ≡ record c { parent = environment.settled e.name c.parent; names = environment.given (environment.shared e) c.names }) }
 {
     let parent = settled(alloc, e.name.as_slice(), c.parent)?;
-    let names = given(shared(alloc, &e)?, c.names)?;
+    let e = Entry {
+        name: e.name,
+        value: e.value,
+        alone: false,
+    };
+    let names = given(e, c.names)?;
     Ok(Captured {
         parent,
         names,
@@ -123,6 +126,33 @@ fn forked(alloc: Global, f: Forked, tasks: &[TaskBlock]) -> Result<Forked, NoMem
     Ok(made)
 }
 
+// An entry leaves a task under another name.
+fn given_out(alloc: Global, task: Task, e: Entry, to: &[u8]) -> Result<Task, NoMemory>
+    ensures { IfOk result (λ made. made ≡ record task {
+      env = environment.renamed (environment.without e.name task.env.names) task.env;
+      gives = task.gives ++ record e { name = to.now } ∷ [];
+    }) }
+{
+    let to = named(alloc, to)?;
+    let Entry { name, value, alone } = e;
+    let Task {
+        env,
+        text,
+        mut gives,
+    } = task;
+    let env = Environment {
+        names: without(name.as_slice(), env.names),
+        room: env.room,
+        allowed: env.allowed,
+    };
+    gives.push(Entry {
+        name: to,
+        value,
+        alone,
+    })?;
+    Ok(Task { env, text, gives })
+}
+
 // `give Y as Z`: Y's entry leaves the task under the name Z.
 fn give_in(alloc: Global, task: Task, name: &[u8], to: &[u8]) -> Result<Task, NoMemory>
     ensures { IfOk result (λ made. made ≡ spec.give_in task to.now (environment.entry_of name.now task.env.names)) }
@@ -136,22 +166,7 @@ fn give_in(alloc: Global, task: Task, name: &[u8], to: &[u8]) -> Result<Task, No
         });
     };
     let e = e.whole(alloc)?;
-    let env = Environment {
-        names: without(e.name.as_slice(), task.env.names),
-        room: task.env.room,
-        allowed: task.env.allowed,
-    };
-    let mut gives = task.gives;
-    gives.push(Entry {
-        name: named(alloc, to)?,
-        value: e.value,
-        alone: e.alone,
-    })?;
-    Ok(Task {
-        env,
-        text: task.text,
-        gives,
-    })
+    given_out(alloc, task, e, to)
 }
 
 // A statement of a task.

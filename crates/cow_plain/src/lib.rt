@@ -21,6 +21,7 @@ mod script;
 mod sharing;
 mod statements;
 mod step;
+mod turns;
 
 pub use copies::Whole;
 pub use script::{Told, run, run_script};

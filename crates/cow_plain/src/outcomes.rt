@@ -1,5 +1,5 @@
 // What becomes of an environment, and what is printed.
-ghost use Rattle.std.specs.Prelude.{◌≡◌, IfOk, true};
+ghost use Rattle.std.specs.Prelude.{◌≡◌, IfOk, false};
 ghost use Rattle.cow_model.specs.Step as spec;
 ghost use Rattle.cow_model.specs.Changes.{flag_of};
 ghost use Rattle.cow_model.specs.Sharing as sharing;
@@ -9,8 +9,8 @@ use crate::operation::Answer;
 use crate::plain::same_plain;
 use crate::printed::line;
 use crate::query::Told;
-use crate::sharing::{alone_after, alone_after_pop};
-use cow_model::{Bytes, Entry, Environment, NoMemory, Outcome, Plain, Refusal, Side};
+use crate::sharing::alone_if;
+use cow_model::{Bytes, Entry, Environment, NoMemory, Outcome, Plain, Refusal};
 use std::alloc::Global;
 
 /// A statement that is refused changes nothing.
@@ -60,6 +60,20 @@ pub fn settles(alloc: Global, name: &[u8], env: Environment) -> Result<Environme
     })
 }
 
+// A name that has place stands for a value.
+fn given_in(
+    alloc: Global,
+    env: Environment,
+    name: &[u8],
+    value: Plain,
+    alone: bool,
+) -> Result<Outcome, NoMemory>
+    ensures { IfOk result (λ out. out ≡ spec.quiet (spec.gives name.now value alone env)) }
+{
+    let env = gives(alloc, name, value, alone, env)?;
+    Ok(quiet(alloc, env))
+}
+
 /// `let N = KIND A*`
 pub fn let_in(
     alloc: Global,
@@ -69,11 +83,25 @@ pub fn let_in(
 ) -> Result<Outcome, NoMemory>
     ensures { IfOk result (λ out. out ≡ spec.let_in env name.now value) }
 {
-    if !has_place(name, env.names.as_slice()) {
-        return refused(alloc, env, Refusal::Full);
+    if has_place(name, env.names.as_slice()) {
+        given_in(alloc, env, name, value, true)
+    } else {
+        refused(alloc, env, Refusal::Full)
     }
-    let env = gives(alloc, name, value, true, env)?;
-    Ok(quiet(alloc, env))
+}
+
+// A second value of a name that has place.
+fn second_given(
+    alloc: Global,
+    env: Environment,
+    name: &[u8],
+    other: &[u8],
+    value: Plain,
+) -> Result<Outcome, NoMemory>
+    ensures { IfOk result (λ out. out ≡ spec.quiet (spec.gives name.now value false (spec.settles other.now env))) }
+{
+    let env = settles(alloc, other, env)?;
+    given_in(alloc, env, name, value, false)
 }
 
 /// A second value made of another's: neither is alone.
@@ -86,12 +114,11 @@ pub fn second_in(
 ) -> Result<Outcome, NoMemory>
     ensures { IfOk result (λ out. out ≡ spec.second_in env name.now other.now value) }
 {
-    if !has_place(name, env.names.as_slice()) {
-        return refused(alloc, env, Refusal::Full);
+    if has_place(name, env.names.as_slice()) {
+        second_given(alloc, env, name, other, value)
+    } else {
+        refused(alloc, env, Refusal::Full)
     }
-    let env = settles(alloc, other, env)?;
-    let env = gives(alloc, name, value, false, env)?;
-    Ok(quiet(alloc, env))
 }
 
 /// A line that uses room.
@@ -147,22 +174,12 @@ pub fn told_both(
     }
 }
 
-/// The flag of a value after an answer.
-pub fn flag_after(e: &Entry, answer: &Answer) -> bool
-    ensures { result ≡ flag_of (sharing.alone_after e.now) answer.now }
+/// The flag of a value after an answer, by whether the statement parts it.
+pub fn flag_after(parts: bool, e: &Entry, answer: &Answer) -> bool
+    ensures { result ≡ flag_of (sharing.alone_if parts e.now.alone e.now.value) answer.now }
 {
     match answer {
-        Ok(done) => alone_after(e, &done.value),
-        Err(_) => false,
-    }
-}
-
-/// The flag of a value after the answer of `pop`.
-pub fn flag_after_pop(side: Side, e: &Entry, answer: &Answer) -> bool
-    ensures { result ≡ flag_of (sharing.alone_after_pop side e.now) answer.now }
-{
-    match answer {
-        Ok(done) => alone_after_pop(side, e, &done.value),
+        Ok(done) => alone_if(parts, e.alone, &e.value, &done.value),
         Err(_) => false,
     }
 }

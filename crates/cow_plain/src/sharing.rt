@@ -5,7 +5,7 @@ ghost use Rattle.cow_model.specs.Sharing as spec;
 ghost use Rattle.cow_model.specs.declared.statement.Statement.{out-Statement};
 
 use crate::plain::{is_tree, same_plain, size};
-use cow_model::{Entry, Literal, NoMemory, Pair, Plain, Side, Statement};
+use cow_model::{Literal, NoMemory, Pair, Plain, Side, Statement};
 
 /// The literal atoms of a statement.
 pub fn literals(statement: &Statement) -> usize
@@ -30,10 +30,10 @@ pub fn literals(statement: &Statement) -> usize
 }
 
 /// What a change of a value allows.
-pub fn own_cost(e: &Entry) -> Result<u64, NoMemory>
-    ensures { IfOk result (λ n. n ≡ spec.own_cost e.now) }
+pub fn own_cost(alone: bool, value: &Plain) -> Result<u64, NoMemory>
+    ensures { IfOk result (λ n. n ≡ spec.own_cost_of alone value.now) }
 {
-    if e.alone { Ok(0) } else { size(&e.value) }
+    if alone { Ok(0) } else { size(value) }
 }
 
 // The hash of an integer.
@@ -97,58 +97,53 @@ fn path_cost(w: u64, n: u64, alike: u64) -> Result<u64, NoMemory>
 }
 
 /// What a change of one key allows.
-pub fn key_cost(a: &Literal, e: &Entry) -> Result<u64, NoMemory>
-    ensures { IfOk result (λ n. n ≡ spec.key_cost a.now e.now) }
+pub fn key_cost(a: &Literal, alone: bool, value: &Plain) -> Result<u64, NoMemory>
+    ensures { IfOk result (λ n. n ≡ spec.key_cost_of a.now alone value.now) }
 {
-    match &e.value {
+    match value {
         Plain::TSet(items) => {
-            path_cost(1, items.len() as u64, alike(a, items.as_slice()) as u64)
+            let alike = alike(a, items.as_slice()) as u64;
+            path_cost(1, items.len() as u64, alike)
         }
         Plain::TDict(pairs) => {
-            path_cost(
-                2,
-                pairs.len() as u64,
-                keys_alike(a, pairs.as_slice()) as u64,
-            )
+            let alike = keys_alike(a, pairs.as_slice()) as u64;
+            path_cost(2, pairs.len() as u64, alike)
         }
-        _ => own_cost(e),
+        _ => own_cost(alone, value),
     }
 }
 
 /// What `pop` allows.
-pub fn pop_cost(side: Side, e: &Entry) -> Result<u64, NoMemory>
-    ensures { IfOk result (λ n. n ≡ spec.pop_cost side e.now) }
+pub fn pop_cost(side: Side, alone: bool, value: &Plain) -> Result<u64, NoMemory>
+    ensures { IfOk result (λ n. n ≡ spec.pop_cost_of side alone value.now) }
 {
-    match (side, &e.value) {
-        (Side::First, Plain::Slice { .. }) => Ok(if e.alone { 0 } else { 1 }),
-        _ => own_cost(e),
+    match (side, value) {
+        (Side::First, Plain::Slice { .. }) => Ok(if alone { 0 } else { 1 }),
+        _ => own_cost(alone, value),
     }
 }
 
 /// What a change by another value allows for its own elements.
-pub fn both_cost(e: &Entry) -> Result<u64, NoMemory>
-    ensures { IfOk result (λ n. n ≡ spec.both_cost e.now) }
+pub fn both_cost(alone: bool, value: &Plain) -> Result<u64, NoMemory>
+    ensures { IfOk result (λ n. n ≡ spec.both_cost_of alone value.now) }
 {
-    if is_tree(&e.value) {
-        size(&e.value)
+    if is_tree(value) {
+        size(value)
     } else {
-        own_cost(e)
+        own_cost(alone, value)
     }
 }
 
-/// Whether a value is alone once it has become another.
-pub fn alone_after(e: &Entry, value: &Plain) -> bool
-    ensures { result ≡ spec.alone_after e.now value.now }
+/// Whether `pop` parts a value from those who share its storage.
+pub fn pop_parts(side: Side, value: &Plain) -> bool
+    ensures { result ≡ spec.pop_parts side value.now }
 {
-    e.alone || !same_plain(&e.value, value)
+    !matches!((side, value), (Side::First, Plain::Slice { .. }))
 }
 
-/// The same after `pop`.
-pub fn alone_after_pop(side: Side, e: &Entry, value: &Plain) -> bool
-    ensures { result ≡ spec.alone_after_pop side e.now value.now }
+/// Whether a value is alone once it has become another, by a change that parts it or not.
+pub fn alone_if(parts: bool, alone: bool, value: &Plain, after: &Plain) -> bool
+    ensures { result ≡ spec.alone_if parts alone value.now after.now }
 {
-    match (side, &e.value) {
-        (Side::First, Plain::Slice { .. }) => e.alone,
-        _ => alone_after(e, value),
-    }
+    alone || parts && !same_plain(value, after)
 }

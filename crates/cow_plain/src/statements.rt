@@ -1,6 +1,7 @@
 // What a statement makes of the values of its names.
 ghost use Rattle.std.specs.Prelude.{◌≡◌, IfOk};
 ghost use Rattle.cow_model.specs.Changes as spec;
+ghost use Rattle.cow_model.specs.Operation as operation;
 ghost use Rattle.cow_model.specs.declared.statement.Statement.{out-Statement};
 
 use crate::copies::Whole;
@@ -20,6 +21,19 @@ fn pair(alloc: Global, key: &Literal, value: &Literal) -> Result<Pair, NoMemory>
     let key = key.whole(alloc)?;
     let value = value.whole(alloc)?;
     Ok(Pair { key, value })
+}
+
+// `put N K V`
+fn put_pair(
+    alloc: Global,
+    key: &Literal,
+    under: &Literal,
+    value: &Plain,
+) -> Result<Answer, NoMemory>
+    ensures { IfOk result (λ answer. answer ≡ operation.put (record { key = key.now; value = under.now }) value.now) }
+{
+    let pair = pair(alloc, key, under)?;
+    put(alloc, &pair, value)
 }
 
 /// What a statement that changes one value makes of it.
@@ -47,7 +61,7 @@ pub fn changed(alloc: Global, statement: &Statement, value: &Plain) -> Result<An
             key,
             value: put_value,
             ..
-        } => { put(alloc, &pair(alloc, key, put_value)?, value) }
+        } => { put_pair(alloc, key, put_value, value) }
         _ => wrong(),
     }
 }

@@ -1,27 +1,28 @@
 // What a statement does that is no fork and no give.
-ghost use Rattle.std.specs.Prelude.{◌≡◌, ◌+◌, IfOk, List, length, if◌then◌else◌};
+ghost use Rattle.std.specs.Prelude.{◌≡◌, ◌+◌, IfOk, List, length, slice_get, if◌then◌else◌};
+ghost use Rattle.std.specs.Fmt as fmt;
 ghost use Rattle.cow_model.specs.Env as environment;
 ghost use Rattle.cow_model.specs.Operation as operation;
-ghost use Rattle.cow_model.specs.Plain as plain;
+ghost use Rattle.cow_model.specs.Printed as printed;
 ghost use Rattle.cow_model.specs.Sharing as sharing;
 ghost use Rattle.cow_model.specs.Step as spec;
-ghost use Rattle.cow_model.specs.Changes.{change_of, change_by_of, query_of, query_both_of};
+ghost use Rattle.cow_model.specs.Changes.{query_of, query_both_of};
+ghost use Rattle.cow_model.specs.Turns.{turn_of, added_of};
 ghost use Rattle.cow_model.specs.declared.statement.Statement.{out-Statement};
 
 use crate::copies::Whole;
-use crate::environment::{allow, entry_of, shared, without};
+use crate::environment::{allow, entry_of, without};
 use crate::lazy::view;
-use crate::operation::{fitting, index, made, pop, slice};
+use crate::operation::{index, made, slice};
 use crate::outcomes::{
-    becomes, flag_after, flag_after_pop, let_in, print_in, quiet, refused, second_in, settles,
-    told, told_both,
+    becomes, flag_after, let_in, print_in, quiet, refused, second_in, settles, told, told_both,
 };
-use crate::plain::size;
 use crate::printed::{decimal, line, list_text, nil_or, plain_text};
-use crate::sharing::{both_cost, key_cost, literals, own_cost, pop_cost};
-use crate::statements::{changed, changed_by, told_of, told_of_both};
+use crate::sharing::{both_cost, literals};
+use crate::statements::{told_of, told_of_both};
+use crate::turns::{added, answer, answer_by, cost, parts};
 use cow_model::{
-    Entry, Environment, Kind, Literal, NoMemory, Outcome, Plain, Refusal, Shape, Side, Statement,
+    Bytes, Entry, Environment, Kind, Literal, NoMemory, Outcome, Plain, Refusal, Shape, Statement,
     Verb,
 };
 use std::alloc::Global;
@@ -126,71 +127,22 @@ fn ask_both(
 }
 
 // A statement that changes one value.
-fn change(
+fn turn(
     alloc: Global,
     env: Environment,
     name: &[u8],
     statement: &Statement,
 ) -> Result<Outcome, NoMemory>
-    ensures { IfOk result (λ out. out ≡ spec.change env name.now (change_of (out-Statement statement.now))) }
+    ensures { IfOk result (λ out. out ≡ spec.turned env name.now (turn_of (out-Statement statement.now))) }
 {
     let Some(e) = entry_of(name, env.names.as_slice()) else {
         return refused(alloc, env, Refusal::NoName);
     };
-    let answer = fitting(changed(alloc, statement, &e.value)?);
-    let cost = own_cost(e)?;
-    let alone = flag_after(e, &answer);
-    becomes(alloc, env, name, cost, alone, answer)
-}
-
-// A statement that changes one key.
-fn change_key(
-    alloc: Global,
-    env: Environment,
-    name: &[u8],
-    key: &Literal,
-    statement: &Statement,
-) -> Result<Outcome, NoMemory>
-    ensures { IfOk result (λ out. out ≡ spec.change_key env name.now key.now (change_of (out-Statement statement.now))) }
-{
-    let Some(e) = entry_of(name, env.names.as_slice()) else {
-        return refused(alloc, env, Refusal::NoName);
-    };
-    let answer = fitting(changed(alloc, statement, &e.value)?);
-    let cost = key_cost(key, e)?;
-    let alone = flag_after(e, &answer);
-    becomes(alloc, env, name, cost, alone, answer)
-}
-
-// `pop N END`
-fn pop_in(alloc: Global, env: Environment, name: &[u8], side: Side) -> Result<Outcome, NoMemory>
-    ensures { IfOk result (λ out. out ≡ spec.pop_in env name.now side) }
-{
-    let Some(e) = entry_of(name, env.names.as_slice()) else {
-        return refused(alloc, env, Refusal::NoName);
-    };
-    let answer = pop(alloc, side, &e.value)?;
-    let cost = pop_cost(side, e)?;
-    let alone = flag_after_pop(side, e, &answer);
-    becomes(alloc, env, name, cost, alone, answer)
-}
-
-// What a statement that changes N by M allows for N's elements, where the two are one value or not.
-fn kept_cost(alloc: Global, e: &Entry, is_one: bool) -> Result<u64, NoMemory>
-    ensures { IfOk result (λ n. n ≡ sharing.both_cost (if is_one then environment.shared e.now else e.now)) }
-{
-    if is_one {
-        both_cost(&shared(alloc, e)?)
-    } else {
-        both_cost(e)
-    }
-}
-
-// What it allows for M's elements, where they are added.
-fn added_cost(f: &Entry, adds: bool) -> Result<u64, NoMemory>
-    ensures { IfOk result (λ n. n ≡ (if adds then plain.size f.now.value else 0)) }
-{
-    if adds { size(&f.value) } else { Ok(0) }
+    let copies = cost(statement, e.alone, &e.value)?;
+    let parts = parts(statement, &e.value);
+    let answer = answer(alloc, statement, &e.value)?;
+    let alone = flag_after(parts, e, &answer);
+    becomes(alloc, env, name, copies, alone, answer)
 }
 
 /// The sum of two numbers of copies. Want of memory stands for a number past 64 bits.
@@ -203,16 +155,29 @@ pub fn sum(own: u64, added: u64) -> Result<u64, NoMemory>
     }
 }
 
+// What a statement that changes N by M allows: for N's elements, where the two are one value or not, and for
+// those of M that are added.
+fn copies_by(statement: &Statement, e: &Entry, f: &Entry, is_one: bool) -> Result<u64, NoMemory>
+    ensures { IfOk result (λ n. n ≡ sharing.both_cost (if is_one then environment.shared e.now else e.now)
+        + added_of (out-Statement statement.now) f.now.value) }
+{
+    let own = if is_one {
+        both_cost(false, &e.value)?
+    } else {
+        both_cost(e.alone, &e.value)?
+    };
+    sum(own, added(statement, &f.value)?)
+}
+
 // A statement that changes N's value by M's.
-fn change_by(
+fn turn_by(
     alloc: Global,
     env: Environment,
     name: &[u8],
     other: &[u8],
-    adds: bool,
     statement: &Statement,
 ) -> Result<Outcome, NoMemory>
-    ensures { IfOk result (λ out. out ≡ spec.change_by env name.now other.now adds (change_by_of (out-Statement statement.now))) }
+    ensures { IfOk result (λ out. out ≡ spec.turned_by env name.now other.now (out-Statement statement.now)) }
 {
     let Some(e) = entry_of(name, env.names.as_slice()) else {
         return refused(alloc, env, Refusal::NoName);
@@ -220,10 +185,10 @@ fn change_by(
     let Some(f) = entry_of(other, env.names.as_slice()) else {
         return refused(alloc, env, Refusal::NoName);
     };
-    let answer = fitting(changed_by(alloc, statement, &e.value, &f.value)?);
-    let cost = sum(kept_cost(alloc, e, name == other)?, added_cost(f, adds)?)?;
-    let alone = name != other && flag_after(e, &answer);
-    becomes(alloc, env, name, cost, alone, answer)
+    let copies = copies_by(statement, e, f, name == other)?;
+    let answer = answer_by(alloc, statement, &e.value, &f.value)?;
+    let alone = name != other && flag_after(true, e, &answer);
+    becomes(alloc, env, name, copies, alone, answer)
 }
 
 // The environment after a lazy statement.
@@ -239,6 +204,30 @@ fn looked(
     allow(copies, env)
 }
 
+// The first of some atoms, as a line.
+fn first_line(alloc: Global, seen: &[Literal]) -> Result<Bytes, NoMemory>
+    ensures { IfOk result (λ text. text ≡ printed.line (printed.nil_or printed.atom_text (slice_get seen.now 0))) }
+{
+    let text = nil_or(alloc, seen.first())?;
+    line(alloc, text.as_slice())
+}
+
+// Atoms as a line.
+fn list_line(alloc: Global, seen: &[Literal]) -> Result<Bytes, NoMemory>
+    ensures { IfOk result (λ text. text ≡ printed.line (printed.list_text seen.now)) }
+{
+    let text = list_text(alloc, seen)?;
+    line(alloc, text.as_slice())
+}
+
+// Their number as a line.
+fn count_line(alloc: Global, seen: &[Literal]) -> Result<Bytes, NoMemory>
+    ensures { IfOk result (λ text. text ≡ printed.line (fmt.decimal (length seen.now))) }
+{
+    let text = decimal(alloc, seen.len() as u64)?;
+    line(alloc, text.as_slice())
+}
+
 // What a lazy statement prints of a view of an array.
 fn view_in(
     alloc: Global,
@@ -252,21 +241,18 @@ fn view_in(
 {
     match verb {
         Verb::First => {
-            let text = nil_or(alloc, seen.first())?;
-            let text = line(alloc, text.as_slice())?;
             let env = looked(alloc, env, name, 1)?;
+            let text = first_line(alloc, seen)?;
             Ok(Outcome { env, text })
         }
         Verb::Show => {
-            let text = list_text(alloc, seen)?;
-            let text = line(alloc, text.as_slice())?;
             let env = looked(alloc, env, name, count as u64)?;
+            let text = list_line(alloc, seen)?;
             print_in(alloc, env, text)
         }
         Verb::Count => {
-            let text = decimal(alloc, seen.len() as u64)?;
-            let text = line(alloc, text.as_slice())?;
             let env = looked(alloc, env, name, 0)?;
+            let text = count_line(alloc, seen)?;
             Ok(Outcome { env, text })
         }
     }
@@ -346,28 +332,12 @@ fn changing_by(alloc: Global, env: Environment, statement: &Statement) -> Result
     match statement {
         Statement::Extend { name, other, .. }
         | Statement::Union { name, other, .. }
-        | Statement::SymDiff { name, other, .. }
-        | Statement::Merge { name, other, .. } => {
-            change_by(
-                alloc,
-                env,
-                name.as_slice(),
-                other.as_slice(),
-                true,
-                statement,
-            )
-        }
-        Statement::Inter { name, other, .. }
+        | Statement::Inter { name, other, .. }
         | Statement::Minus { name, other, .. }
+        | Statement::SymDiff { name, other, .. }
+        | Statement::Merge { name, other, .. }
         | Statement::Within { name, other, .. } => {
-            change_by(
-                alloc,
-                env,
-                name.as_slice(),
-                other.as_slice(),
-                false,
-                statement,
-            )
+            turn_by(alloc, env, name.as_slice(), other.as_slice(), statement)
         }
         _ => asking(alloc, env, statement),
     }
@@ -378,19 +348,15 @@ fn changing(alloc: Global, env: Environment, statement: &Statement) -> Result<Ou
     ensures { IfOk result (λ out. out ≡ spec.changing env (out-Statement statement.now)) }
 {
     match statement {
-        Statement::Insert { name, atom, .. }
-        | Statement::Update { name, atom, .. }
-        | Statement::Remove { name, atom, .. }
-        | Statement::Put {
-            name,
-            key: atom,
-            ..
-        } => { change_key(alloc, env, name.as_slice(), atom, statement) }
         Statement::Append { name, .. }
         | Statement::Prepend { name, .. }
+        | Statement::Insert { name, .. }
         | Statement::InsertAt { name, .. }
+        | Statement::Update { name, .. }
+        | Statement::Remove { name, .. }
         | Statement::RemoveAt { name, .. }
         | Statement::Set { name, .. }
+        | Statement::Pop { name, .. }
         | Statement::Replace { name, .. }
         | Statement::Swap { name, .. }
         | Statement::Reverse { name, .. }
@@ -398,7 +364,8 @@ fn changing(alloc: Global, env: Environment, statement: &Statement) -> Result<Ou
         | Statement::Splice { name, .. }
         | Statement::Reserve { name, .. }
         | Statement::Clear { name, .. }
-        | Statement::Rebase { name, .. } => change(alloc, env, name.as_slice(), statement),
+        | Statement::Rebase { name, .. }
+        | Statement::Put { name, .. } => turn(alloc, env, name.as_slice(), statement),
         _ => changing_by(alloc, env, statement),
     }
 }
@@ -431,7 +398,6 @@ fn act(
         } => { slice_in(alloc, env, name.as_slice(), other.as_slice(), *i, *j) }
         Statement::Discard { name, .. } => discard_in(alloc, env, name.as_slice()),
         Statement::Show { name, .. } => show_in(alloc, env, name.as_slice()),
-        Statement::Pop { name, side, .. } => pop_in(alloc, env, name.as_slice(), *side),
         Statement::Lazy { name, i, verb, .. } => {
             lazy_in(alloc, env, shapes, name.as_slice(), *i, *verb)
         }

@@ -1,11 +1,11 @@
 // The printed forms of atoms and of pairs.
-ghost use Rattle.std.specs.Prelude.{◌≡◌, ◌++◌, ◌∷◌, [], map, OnOk, OnErr};
+ghost use Rattle.std.specs.Prelude.{◌≡◌, ◌++◌, OnOk, OnErr};
 ghost use Rattle.std.specs.Io.{StartsWith};
 ghost use Rattle.std.specs.List.{flat_map};
 ghost use Rattle.std.specs.Fmt.{signed_decimal};
 ghost use Rattle.cow_model.specs.Printed as spec;
 ghost use Rattle.cow_item.specs.Atoms.{plain_of_atom};
-ghost use Rattle.cow_print.specs.Shown.{plain_of, pair_of};
+ghost use Rattle.cow_print.specs.Shown.{list_of, pair_of, pairs_of, plain_of, quoted};
 
 use crate::printed::{Printed, put_items, whole_or_none};
 use cow_cell::Stock;
@@ -40,7 +40,7 @@ fn put_escaped(text: &mut Vec<u8>, bytes: &[u8]) -> Result<(), NoMemory>
 
 // The bytes in quotes. Want of memory leaves a part of them.
 fn put_quoted(text: &mut Vec<u8>, bytes: &[u8]) -> Result<(), NoMemory>
-    ensures ok { OnOk result (text.new.items ≡ text.old.items ++ 34 ∷ [] ++ flat_map spec.escaped bytes.now ++ 34 ∷ []) }
+    ensures ok { OnOk result (text.new.items ≡ text.old.items ++ quoted bytes.now) }
     ensures front { StartsWith text.new.items text.old.items }
 {
     text.push(b'"')?;
@@ -73,7 +73,7 @@ impl<'a, Q: Stock> Printed for (&'a Atom<Q>, &'a Atom<Q>) {
 
 // The atoms in brackets. Want of memory leaves a part of them.
 fn put_list_part<Q: Stock>(text: &mut Vec<u8>, items: &[&Atom<Q>]) -> Result<(), NoMemory>
-    ensures ok { OnOk result (text.new.items ≡ text.old.items ++ spec.list_text (map plain_of items.now)) }
+    ensures ok { OnOk result (text.new.items ≡ text.old.items ++ list_of items.now) }
     ensures front { StartsWith text.new.items text.old.items }
 {
     put_items(text, items)
@@ -84,7 +84,7 @@ fn put_pairs_part<Q: Stock>(
     text: &mut Vec<u8>,
     pairs: &[(&Atom<Q>, &Atom<Q>)],
 ) -> Result<(), NoMemory>
-    ensures ok { OnOk result (text.new.items ≡ text.old.items ++ spec.pairs_text (map pair_of pairs.now)) }
+    ensures ok { OnOk result (text.new.items ≡ text.old.items ++ pairs_of pairs.now) }
     ensures front { StartsWith text.new.items text.old.items }
 {
     if pairs.is_empty() {
@@ -98,7 +98,8 @@ fn put_pairs_part<Q: Stock>(
 /// stand behind a `\`. Linear in the bytes of the atom. `NoMemory` comes only for want of memory, and
 /// `text` is then as it was; nothing is allocated but the room of `text`.
 pub fn put_atom<Q: Stock>(text: &mut Vec<u8>, a: &Atom<Q>) -> Result<(), NoMemory>
-    ensures ok { OnOk result (text.new.items ≡ text.old.items ++ spec.atom_text (plain_of_atom a.now)) }
+    ensures ok { OnOk result
+        (text.new.items ≡ text.old.items ++ spec.atom_text (plain_of_atom a.now)) }
     ensures err { OnErr result (text.new.items ≡ text.old.items) }
 {
     let before = text.len();
@@ -110,7 +111,7 @@ pub fn put_atom<Q: Stock>(text: &mut Vec<u8>, a: &Atom<Q>) -> Result<(), NoMemor
 /// their number. `NoMemory` comes only for want of memory, and `text` is then as it was; nothing is
 /// allocated but the room of `text`.
 pub fn put_list<Q: Stock>(text: &mut Vec<u8>, items: &[&Atom<Q>]) -> Result<(), NoMemory>
-    ensures ok { OnOk result (text.new.items ≡ text.old.items ++ spec.list_text (map plain_of items.now)) }
+    ensures ok { OnOk result (text.new.items ≡ text.old.items ++ list_of items.now) }
     ensures err { OnErr result (text.new.items ≡ text.old.items) }
 {
     let before = text.len();
@@ -125,7 +126,7 @@ pub fn put_pairs<Q: Stock>(
     text: &mut Vec<u8>,
     pairs: &[(&Atom<Q>, &Atom<Q>)],
 ) -> Result<(), NoMemory>
-    ensures ok { OnOk result (text.new.items ≡ text.old.items ++ spec.pairs_text (map pair_of pairs.now)) }
+    ensures ok { OnOk result (text.new.items ≡ text.old.items ++ pairs_of pairs.now) }
     ensures err { OnErr result (text.new.items ≡ text.old.items) }
 {
     let before = text.len();

@@ -36,7 +36,8 @@ pub fn whole_or_none(
 
 // Each item behind a comma. Want of memory leaves a part of them.
 fn put_others<T: Printed>(text: &mut Vec<u8>, items: &[T]) -> Result<(), NoMemory>
-    ensures ok { OnOk result (text.new.items ≡ text.old.items ++ flat_map spec.behind_comma (map T.form items.now)) }
+    ensures ok { OnOk result
+        (text.new.items ≡ text.old.items ++ flat_map spec.behind_comma (map T.form items.now)) }
     ensures front { StartsWith text.new.items text.old.items }
 {
     for item in items {
@@ -48,7 +49,8 @@ fn put_others<T: Printed>(text: &mut Vec<u8>, items: &[T]) -> Result<(), NoMemor
 
 // The items with commas between them. Want of memory leaves a part of them.
 fn put_separated<T: Printed>(text: &mut Vec<u8>, items: &[T]) -> Result<(), NoMemory>
-    ensures ok { OnOk result (text.new.items ≡ text.old.items ++ spec.separated (map T.form items.now)) }
+    ensures ok { OnOk result
+        (text.new.items ≡ text.old.items ++ spec.separated (map T.form items.now)) }
     ensures front { StartsWith text.new.items text.old.items }
 {
     match items {

@@ -1,3 +1,4 @@
+pub mod Around
 pub mod Gaps
 pub mod Packed
 pub mod Runs

@@ -8,15 +8,16 @@
 //!   alone with room: where it is alone with room already, that is one look at the handle. Else it grows an
 //!   unshared row by moving its items, or goes by `renew`, which takes all memory of the new storage first,
 //!   copies the items, which can't be refused, and ends the old handle last. After an `Ok` of `prepare` the
-//!   handle is known to be alone, so the collection writes by `only`, which looks at nothing.
+//!   handle is known to be alone, so the collection writes by `only`, which looks at nothing. `replace_run` is
+//!   a whole change, since of a row that others hold it copies no item that it would end.
 //!
 //! The layer above names no buffer and no place: it changes a row by list calls, each of which is one
 //! step or one move of memory, but for `reverse` and for `replace_run`, which takes one move and a step
 //! for each item that comes or goes. A run of items is read as one slice, copied by one loop that writes
 //! items and nothing else, with one count of its copies, and ended by one loop.
 //!
-//! `Row::with_capacity` and `renew` may always answer want of memory, so a body that only does so is proved.
-//! The tests of the collections show that both succeed.
+//! `Row::with_capacity`, `empty` and what renews a storage may always answer want of memory, so a body that only
+//! does so is proved. The tests of the collections show that they succeed.
 #![tactic(auto)]
 
 pub mod row;

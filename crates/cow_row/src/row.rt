@@ -3,6 +3,7 @@ ghost use Rattle.std.specs.List.{splice};
 ghost use Rattle.cow_buf.specs.Places.{IsRun, IsClear, blanked};
 ghost use Rattle.cow_model.specs.Purse.{more, noted};
 ghost use Rattle.cow_row.specs.Places.{somes, IsPacked};
+ghost use Rattle.cow_row.specs.Words.{run_of, fronted, Gains, Spends, Splices, units};
 
 use core::mem::replace_with;
 use cow_buf::Buf;
@@ -103,7 +104,7 @@ impl<T: Drop> Row<T> {
     /// The `count` items from `start` on, in order.
     pub fn run(&self, start: usize, count: usize) -> &[T]
         requires { start + count ≤ length self.now.items }
-        ensures { result.now ≡ take count (drop start self.now.items) }
+        ensures { result.now ≡ run_of start count self.now.items }
     {
         self.buf.run(self.front + start, count)
     }
@@ -235,7 +236,7 @@ impl<T: Drop> Row<T> {
 
     /// The items stand from the first place on. One move of memory where they don't.
     pub fn to_front(&mut self)
-        ensures { self.new ≡ record { items = self.old.items; front = 0; capacity = self.old.front + self.old.capacity } }
+        ensures { self.new ≡ fronted self.old }
     {
         self.buf.shift(self.front, 0, self.len);
         self.front = 0;
@@ -282,12 +283,12 @@ pub fn copy_run<T: Item<Q>, Q: Stock>(
     requires to_settled { All T.IsSettled to.old.items }
     requires room { length to.old.items + count ≤ to.old.capacity }
     requires spare { count ≤ h.old.spare }
-    ensures same { map T.plain to.new.items ≡ map T.plain to.old.items ++ map T.plain (take count (drop start from.now.items)) }
+    ensures same { Gains T.plain (run_of start count from.now.items) to.old.items to.new.items }
     ensures count { length to.new.items ≡ length to.old.items + count }
     ensures settled { All T.IsSettled to.new.items }
     ensures capacity { to.new.capacity ≡ to.old.capacity }
     ensures front { to.new.front ≡ to.old.front }
-    ensures units { h.new.spare + count_by T.is_counted (map T.plain (take count (drop start from.now.items))) ≡ h.old.spare }
+    ensures units { Spends T.plain T.is_counted (run_of start count from.now.items) h.old h.new }
     ensures copied { h.new.copied ≡ (noted (T.WEIGHT * count) h.old).copied }
 {
     let (front, len) = (to.front, to.len);
@@ -313,9 +314,9 @@ fn with_twins<T: Item<Q>, Q: Stock>(
     requires spare { length run.0.now ≤ run.3.spare }
     ensures packed { IsPacked result.0 run.entry.1 (run.entry.2 + length run.entry.0.now) }
     ensures long { length result.0 ≡ length to }
-    ensures same { map T.plain (somes result.0) ≡ map T.plain (somes to) ++ map T.plain run.entry.0.now }
+    ensures same { Gains T.plain run.entry.0.now (somes to) (somes result.0) }
     ensures settled { All T.IsSettled (somes result.0) }
-    ensures units { result.1.spare + count_by T.is_counted (map T.plain run.entry.0.now) ≡ run.entry.3.spare }
+    ensures units { Spends T.plain T.is_counted run.entry.0.now run.entry.3 result.1 }
     ensures copied { result.1.copied ≡ run.entry.3.copied }
 {
     let (from, front, len, h) = run;
@@ -339,7 +340,7 @@ fn item<T>(from: &[T], i: usize) -> &T
 /// Ends each item, in one pass; the empty row keeps its places. Takes no memory.
 pub fn end_items<T: Item<Q>, Q: Stock>(row: &mut Row<T>, h: &mut Holder<Q>)
     ensures empty { row.new ≡ record row.old { items = [] } }
-    ensures paid { h.new ≡ more (count_by T.is_counted (map T.plain row.old.items)) h.old }
+    ensures paid { h.new ≡ more (units T.plain T.is_counted row.old.items) h.old }
 {
     let front = row.front;
     let len = row.len;
@@ -359,12 +360,11 @@ pub fn replace_run<T: Item<Q>, Q: Stock>(
     requires within { start + count ≤ length row.old.items }
     requires room { length row.old.items + length items.items ≤ row.old.capacity + count }
     requires settled { All T.IsSettled row.old.items }
-    ensures same { map T.plain row.new.items ≡ splice (map T.plain row.old.items) start (start + count) (map T.plain items.items) }
-    ensures count { length row.new.items + count ≡ length row.old.items + length items.items }
+    ensures same { Splices T.plain start count items.items row.old row.new }
     ensures settled { All T.IsSettled row.new.items }
     ensures capacity { row.new.capacity ≡ row.old.capacity }
     ensures front { row.new.front ≡ row.old.front }
-    ensures paid { h.new ≡ more (count_by T.is_counted (map T.plain (take count (drop start row.old.items)))) h.old }
+    ensures paid { h.new ≡ more (units T.plain T.is_counted (run_of start count row.old.items)) h.old }
 {
     let mut items = items;
     settle_all(&mut items);
@@ -393,7 +393,7 @@ fn end_places<T: Item<Q>, Q: Stock>(buf: &mut Buf<T>, from: usize, count: usize,
     requires filled { IsRun buf.old from count }
     requires small { from + count ≤ 2 ^ 32 }
     ensures places { buf.new ≡ blanked None from count buf.old }
-    ensures paid { h.new ≡ more (count_by T.is_counted (map T.plain (somes (take count (drop from buf.old))))) h.old }
+    ensures paid { h.new ≡ more (units T.plain T.is_counted (somes (run_of from count buf.old))) h.old }
 {
     for i in 0..count {
         buf.take(from + i).end(h);

@@ -6,13 +6,15 @@ use Rattle.std.proofs.lemmas.List.Elements.{All-head, All-tail}
 use Rattle.cow_model.specs.Atoms.{IsBareLayer, IsBareBlock}
 use Rattle.cow_model.specs.Env.{start}
 use Rattle.cow_model.specs.declared.plain.Literal.{Literal}
-use Rattle.cow_model.specs.Purse.{Purse, RisesBy, whole}
+use Rattle.cow_model.specs.Purse.{Purse, RisesBy, RisesWithin, whole}
 use Rattle.cow_model.specs.Run.{run_one, env_after, bound, least_layer, least_from, least}
 use Rattle.cow_model.specs.declared.statement.Statement.{Statement, out-Statement}
 use Rattle.cow_model.proofs.Within.{least_allowed, least_within_bound}
-use Rattle.cow_eval.specs.Envs.{SeenEnv, CanRun, Costs, env_of, IsBare, Balances}
+use Rattle.cow_eval.specs.Entries.{most_units}
+use Rattle.cow_eval.specs.Envs.{SeenEnv, CanRun, env_of, IsBare, Balances}
+use Rattle.cow_tasks.specs.Blocks.{HasParts, count_in, count_of}
+use Rattle.cow_tasks.proofs.Making.{can-less}
 use Rattle.cow_run.specs.Answer.{stock_units}
-use Rattle.cow_run.specs.Input.{max_bytes}
 
 -- of a bare script nothing that is left is counted, and the units that are out are those of the names
 pub record Settles (p : Literal → Bool) (rest : List Statement) (env : SeenEnv) (h : Purse) : Type 0 where
@@ -26,7 +28,8 @@ pub record Counts (p : Literal → Bool) (ss rest : List Statement) (env : SeenE
   pub done : ℕ
   pub told : done + least_from (env_of env) [] rest ≡ least ss []
   pub least : min done (2 ^ 64 - 1) ≤ h.copied
-  pub ready : CanRun (length rest) env h
+  pub ready : CanRun (count_in rest) env h
+  pub parts : HasParts (count_in rest) h
   pub bare : IsBareBlock p ss → Settles p rest env h
 
 -- two rises in turn
@@ -36,20 +39,22 @@ rises_on n m a b p q = omega (arith, p, q)
 -- one statement more
 pub counts_more : (p : Literal → Bool) (ss rest : List Statement) (s : Statement) (env env' : SeenEnv) (h h' : Purse) → Counts p ss (s ∷ rest) env h
     → env_of env' ≡ (run_one (env_of env) [] s).env
-    → Costs 0 1 env env' h h'
+    → RisesWithin env.allowed env'.allowed h h'
+    → h.spare ≤ h'.spare + count_of (out-Statement s) * most_units
     → RisesBy (least_layer (env_of env) (out-Statement s)) h h'
-    → CanRun (length rest) env' h'
+    → CanRun (count_in rest) env' h'
     → (IsBare p env.names → IsBareLayer p (out-Statement s) → Balances p 0 env.names env'.names h h')
     → Counts p ss rest env' h'
-counts_more p ss rest s env env' h h' c is costs by ready bare =
+counts_more p ss rest s env env' h h' c is copied fell by ready bare =
     let atoms = least_layer (env_of env) (out-Statement s) in
     let told : c.done + (atoms + least_from (run_one (env_of env) [] s).env [] rest) ≡ least ss [] = c.told in
     record {
-      most = let within = costs.copied.copied in omega (arith, c.most, within);
+      most = let within = copied.copied in omega (arith, c.most, within);
       done = c.done + atoms;
       told = omega (arith, told, ap (λ e. least_from e [] rest) is);
       least = rises_on c.done atoms h.copied h'.copied c.least by;
       ready = ready;
+      parts = let parts : 17 * (2 ^ 39 + (count_of (out-Statement s) + count_in rest) * most_units) ≤ h.spare = c.parts in omega (arith, parts, fell);
       bare = λ script.
           let settled = c.bare script in
           let balance = bare settled.names (All-head (λ x. IsBareLayer p (out-Statement x)) s rest settled.plain) in
@@ -60,29 +65,37 @@ counts_more p ss rest s env env' h h' c is costs by ready bare =
 pub counts_err : (p : Literal → Bool) (ss rest : List Statement) (s : Statement) (env env' : SeenEnv) (h h' : Purse) → Counts p ss (s ∷ rest) env h
     → env_after (env_of env) [] (s ∷ rest) ≡ env_after start [] ss
     → env'.allowed ≤ (run_one (env_of env) [] s).env.allowed
-    → Costs 0 1 env env' h h'
+    → RisesWithin env.allowed env'.allowed h h'
     → h'.copied ≤ bound ss []
-counts_err p ss rest s env env' h h' c ends most costs =
+counts_err p ss rest s env env' h h' c ends most copied =
     let grown = least_allowed (run_one (env_of env) [] s).env [] rest in
     let same : (env_after (run_one (env_of env) [] s).env [] rest).allowed ≡ bound ss [] = ap (λ e. e.allowed) ends in
-    let within = costs.copied.copied in
+    let within = copied.copied in
     omega (arith, c.most, most, within, grown, same)
 
 -- every script can be run from the start
-pub can_start : (ss : List Statement) (env : SeenEnv) → env.names ≡ [] → env.allowed ≡ 0 → length ss ≤ max_bytes + 1 → CanRun (length ss) env whole
-can_start ss env none zero short = record {
-  few = omega (arith, short);
-  allowed = omega (arith, short, zero);
+pub can_start : (ss : List Statement) (env : SeenEnv) → env.names ≡ [] → env.allowed ≡ 0 → count_in ss ≤ 2 ^ 21 → CanRun (count_in ss) env whole
+can_start ss env none zero few = record {
+  few = omega (arith, few);
+  allowed = omega (arith, few, zero);
   near = λ k d lt. absurd (omega (arith, lt, ap length none));
-  spare = omega (arith, short);
+  spare = omega (arith, few);
 }
 
--- with one statement more to run
-pub can_more : (ss : List Statement) (at : ℕ) (env : SeenEnv) (h : Purse) → at < length ss → CanRun (length (drop at ss)) env h → CanRun (length (drop (at + 1) ss) + 1) env h
-can_more ss at env h lt ready =
-    let here = length-drop at ss in
-    let next = length-drop (at + 1) ss in
-    subst (λ n. CanRun n env h) (omega (arith, here, next, lt)) ready
+-- and its forks have holders for all tasks
+pub parts_start : (ss : List Statement) → count_in ss ≤ 2 ^ 21 → HasParts (count_in ss) whole
+parts_start ss few = omega (arith, few)
+
+-- the next statement may be run, and those behind it
+pub can_next : (s : Statement) (rest : List Statement) (env : SeenEnv) (h : Purse) → CanRun (count_in (s ∷ rest)) env h → CanRun (count_in rest + count_of (out-Statement s)) env h
+can_next s rest env h ready = subst (λ n. CanRun n env h) (omega arith) ready
+
+-- the next statement alone
+pub can_one : (s : Statement) (rest : List Statement) (env : SeenEnv) (h : Purse) → CanRun (count_in (s ∷ rest)) env h → CanRun (count_of (out-Statement s)) env h
+can_one s rest env h ready = can-less (count_of (out-Statement s)) (count_in (s ∷ rest)) env h (omega arith) ready
+
+pub parts_one : (s : Statement) (rest : List Statement) (h : Purse) → HasParts (count_in (s ∷ rest)) h → HasParts (count_of (out-Statement s)) h
+parts_one s rest h parts = let all : 17 * (2 ^ 39 + (count_of (out-Statement s) + count_in rest) * most_units) ≤ h.spare = parts in omega (arith, all)
 
 -- behind the last statement nothing is left
 pub nothing_left : (ss : List Statement) (i : ℕ) → length ss ≤ i → drop i ss ≡ []

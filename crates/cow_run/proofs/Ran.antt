@@ -1,17 +1,20 @@
 -- What was written while a script ran.
-use Rattle.std.proofs.Common.{◌≡◌, ℕ, ◌+◌, ◌<◌, List, [], ◌∷◌, ◌++◌, length, drop, get_or, sym, ◌∙◌, ap, subst, append_assoc, refl, inl, inr, Bool, true, false, if◌then◌else◌}
+use Rattle.std.proofs.Common.{◌≡◌, ℕ, ◌+◌, ◌<◌, ◌≤◌, List, [], ◌∷◌, ◌++◌, length, drop, get_or, sym, ◌∙◌, ap, subst, append_assoc, refl, inl, inr, Bool, true, if◌then◌else◌}
 use Rattle.std.specs.Prelude.{Option, Some, None}
 use Rattle.std.proofs.lemmas.List.{at_drop_more}
 use Rattle.std.specs.Io.KnownBytes.{Appends}
 use Rattle.cow_model.specs.Env.{start}
-use Rattle.cow_model.specs.Run.{run_one, text_from, text_of, env_after, bound}
+use Rattle.cow_model.specs.Purse.{Purse}
+use Rattle.cow_model.specs.Run.{run_one, text_from, text_of, env_after, bound, least}
 use Rattle.cow_model.specs.declared.outcome.Environment.{Environment}
 use Rattle.cow_model.specs.declared.statement.Statement.{Statement, out-Statement}
-use Rattle.cow_value.specs.Built.{is_built, line_of}
-use Rattle.cow_eval.specs.Statements.{unbuilt_line}
-use Rattle.cow_run.specs.Answer.{IsLine, whole_text}
+use Rattle.cow_tasks.specs.Blocks.{unbuilt_line}
+use Rattle.cow_run.specs.Answer.{stock_units, whole_text, HasRun, IsBareScript, IsLine}
 use Rattle.cow_run.specs.Lines.{census_if}
 use Rattle.cow_run.specs.Output.{WritesFront, WritesLine}
+use Rattle.cow_run.specs.Runs.{SaysOf, SaysUnits, StatementsAnswered}
+use Rattle.cow_run.specs.declared.status.Status.{Status}
+use Rattle.cow_run.specs.declared.status.Status.TheVariants as status
 use Rattle.cow_run.proofs.Known.{appends_more}
 
 -- some text was written, and what is to come completes the whole
@@ -48,15 +51,6 @@ next_rest block i s lt is = at_drop_more (λ x. x) block i s lt ∙ ap (λ x. x 
 pub record Stands (before now : Option (List ℕ)) (ss rest : List Statement) (env : Environment) : Type 0 where
   pub written : HasWritten before now (text_from env [] rest) (text_of ss [])
   pub ends : env_after env [] rest ≡ env_after start [] ss
-  pub built : unbuilt_line rest ≡ None
-
--- the first of built statements is built, and so are the others
-pub first_is_built : (b : Bool) (rest : List Statement) (line : ℕ) → (if b then unbuilt_line rest else Some line) ≡ None → (b ≡ true) × (unbuilt_line rest ≡ None)
-first_is_built true rest line p = (refl, p)
-first_is_built false rest line p = cc
-
-pub head_built : (s : Statement) (rest : List Statement) → unbuilt_line (s ∷ rest) ≡ None → (is_built (out-Statement s) ≡ true) × (unbuilt_line rest ≡ None)
-head_built s rest p = first_is_built (is_built (out-Statement s)) rest (line_of (out-Statement s)) p
 
 -- one statement more
 pub stands_more : (before now after : Option (List ℕ)) (ss rest : List Statement) (s : Statement) (env env' : Environment) → Stands before now ss (s ∷ rest) env → env' ≡ (run_one env [] s).env → Appends now after (run_one env [] s).text → Stands before after ss rest env'
@@ -65,7 +59,6 @@ stands_more before now after ss rest s env env' st is a =
     record {
       written = subst (λ e. HasWritten before after (text_from e [] rest) (text_of ss [])) (sym is) more;
       ends = ap (λ e. env_after e [] rest) is ∙ st.ends;
-      built = (head_built s rest st.built).1;
     }
 
 -- a front of a text is one of a longer text
@@ -87,3 +80,30 @@ pub census_written : (before now after : Option (List ℕ)) (ss : List Statement
 census_written before now after ss census copied copied' most p q text line =
     appends_more before now after (text_of ss []) (census_if census copied' (bound ss [])) text
     (subst (λ t. Appends now after t) (ap (λ n. census_if census n most) p ∙ ap (census_if census copied') q) line)
+
+-- all that was written at the end of a run of these statements, and what the holder tells of it
+abbrev pub Ended : (before after : Option (List ℕ)) → Bool → Purse → List Statement → Type 0
+Ended before after census h ss =
+    Appends before after (whole_text census h.copied ss) × (h.copied ≤ bound ss []) × (least ss [] ≤ h.copied) × (IsBareScript ss → h.spare ≡ stock_units)
+
+-- a run to its end says what its status tells of the units
+ended-says : (before after : Option (List ℕ)) (failed : Type 0) (census : Bool) (ss : List Statement) (h : Purse) (status : Status) → Ended before after census h ss → unbuilt_line ss ≡ None → SaysUnits h status → SaysOf failed census ss (whole_text census h.copied ss) h status
+ended-says before after failed census ss h status.Ok e built says = ((built, record { written = refl; least = e.2; most = e.1 }), says)
+ended-says before after failed census ss h (status.Leak spare stock) e built says =
+    ((built, (record { written = refl; least = e.2; most = e.1 }, λ is_bare. says.2 (says.0 ∙ (e.3 is_bare ∙ sym says.1)))), says)
+ended-says before after failed census ss h status.Usage e built says = absurd says
+ended-says before after failed census ss h (status.Script why) e built says = absurd says
+ended-says before after failed census ss h status.ReadFault e built says = absurd says
+ended-says before after failed census ss h status.WriteFault e built says = absurd says
+ended-says before after failed census ss h status.NoMemory e built says = absurd says
+ended-says before after failed census ss h (status.NotYet line) e built says = absurd says
+
+-- the same of a script whose statements were run
+pub run_ended : (before after : Option (List ℕ)) (failed : Type 0) (census : Bool) (ss run : List Statement) (h : Purse) (status : Status) → run ≡ ss → Ended before after census h run → unbuilt_line ss ≡ None → SaysUnits h status → StatementsAnswered before after failed census ss h status
+run_ended before after failed census ss run h status same e built says =
+    let of-all = subst (λ z. Ended before after census h z) same e in
+    record {
+      written = whole_text census h.copied ss;
+      appended = of-all.0;
+      says = ended-says before after failed census ss h status of-all built says;
+    }

@@ -11,7 +11,7 @@ use Rattle.cow_model.specs.Run.{text_of, bound, least}
 use Rattle.cow_model.specs.declared.fault.ParseFault.{ParseFault}
 use Rattle.cow_model.specs.declared.fault.ParseFault.TheVariants as fault
 use Rattle.cow_model.specs.declared.statement.Statement.{Statement}
-use Rattle.cow_eval.specs.Statements.{unbuilt_line}
+use Rattle.cow_tasks.specs.Blocks.{unbuilt_line}
 use Rattle.cow_run.specs.Input.{max_bytes}
 use Rattle.cow_run.specs.Lines.{usage_text, not_built_text, fault_text, census_if}
 use Rattle.cow_run.specs.declared.status.Status.{Status}

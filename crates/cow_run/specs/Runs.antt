@@ -1,24 +1,19 @@
 -- What the parts of a run do.
-use Rattle.std.specs.Prelude.{◌≡◌, ◌+◌, ◌≤◌, Bool, List, length, All, Option, Some, None, ⊤}
+use Rattle.std.specs.Prelude.{◌≡◌, ◌^◌, ◌≤◌, Bool, List, All, Option, Some, None, ⊤}
 use Rattle.std.specs.Io.KnownBytes.{Appends}
-use Rattle.cow_model.specs.Atoms.{FitsTexts}
 use Rattle.cow_model.specs.Lexis.{Text}
-use Rattle.cow_model.specs.Plain.{max_count}
 use Rattle.cow_model.specs.Purse.{Purse, whole}
-use Rattle.cow_model.specs.Sharing.{literals}
 use Rattle.cow_model.specs.declared.statement.Statement.{Statement, out-Statement}
-use Rattle.cow_eval.specs.Statements.{unbuilt_line}
+use Rattle.cow_tasks.specs.Blocks.{IsRunnableLayer, count_in, unbuilt_line}
 use Rattle.cow_run.specs.Answer.{stock_units, HasRun, HasRunInPart, HasRunCounted, Leaks, IsLine, Says}
-use Rattle.cow_run.specs.Input.{max_bytes}
 use Rattle.cow_run.specs.Lines.{not_built_text}
 use Rattle.cow_run.specs.declared.status.Status.{Status}
 use Rattle.cow_run.specs.declared.status.Status.TheVariants.{Ok, WriteFault, NoMemory, Leak, NotYet}
 
--- what every script that was read has: short texts, few literals a statement, and no more statements than bytes and one
+-- what every script that was read has: where all is built its statements can be run, and there are few, those of tasks among them
 pub record IsRead (ss : List Statement) : Type 0 where
-  pub texts : All (λ s. FitsTexts (out-Statement s)) ss
-  pub few : All (λ s. literals (out-Statement s) ≤ max_count) ss
-  pub short : length ss ≤ max_bytes + 1
+  pub runs : unbuilt_line ss ≡ None → All (λ s. IsRunnableLayer (out-Statement s)) ss
+  pub few : count_in ss ≤ 2 ^ 21
 
 -- whether all units came back
 abbrev pub SaysUnits : Purse → Status → Type 0

@@ -5,33 +5,21 @@ ghost use Rattle.cow_run.specs.Answer.{Answers, RunsWhole};
 ghost use Rattle.cow_run.specs.Options as spec;
 ghost use Rattle.cow_run.specs.Options.{asks_census};
 
+use crate::options::options;
 use crate::output::write_usage;
 use crate::run::run;
 use crate::status::Status;
 use cow_cell::{Holder, Stock};
+use cow_crew::Gate;
 use cow_port::{Sink, Source};
 use std::alloc::Global;
-
-// Whether the words ask for the census. None where they are no option.
-fn options(words: &[&str]) -> Option<bool>
-    ensures { result ≡ spec.options (map (λ w. w.now) words.now) }
-{
-    match *words {
-        [] | [_, _, _, ..] => None,
-        [first] => { if first == "run" { Some(false) } else { None } }
-        [first, second] => {
-            if first == "run" && second == "--census" {
-                Some(true)
-            } else {
-                None
-            }
-        }
-    }
-}
+use std::thread::Threads;
 
 /// The whole program, but for the words, the source, the sink and the holder that it is given: reads a script of
 /// at most 1,048,576 bytes from the source to its end, runs it, and writes what each statement prints
-/// before the next one runs. With `--census` a line that tells the copies follows.
+/// before the next one runs. With `--census` a line that tells the copies follows. The tasks of a fork run on
+/// at most as many threads as `--workers` says, 1 to 64, or else 4, task i after `gate.pass(i)`; what is written
+/// is the same for every number of workers and every order in which they come.
 ///
 /// - `Usage` comes exactly where the words are no option, before anything is read.
 /// - `ReadFault` and `WriteFault` come only where the faults of the source or the sink rose.
@@ -47,11 +35,13 @@ fn options(words: &[&str]) -> Option<bool>
 /// `WriteFault` and `NoMemory` it is at most what the sharing rule allows the script (`bound`), or nothing where
 /// none was run; after `Ok` and `Leak` it is at least what the script has to make (`least`). On `Usage`, `Script`
 /// and `NotYet` one line is written; a write that fails there leaves the status as it is.
-pub fn cowrun<Q: Stock, S: Source, K: Sink>(
+pub fn cowrun<R: Threads + Sync, Q: Stock + Send + Sync, S: Source, K: Sink, G: Gate>(
+    rt: &R,
     alloc: Global,
     words: &[&str],
     source: &mut S,
     sink: &mut K,
+    gate: &G,
     h: &mut Holder<Q>,
 ) -> Status
     requires fresh { h.old ≡ whole }
@@ -70,7 +60,7 @@ pub fn cowrun<Q: Stock, S: Source, K: Sink>(
         (asks_census (spec.options (map (λ w. w.now) words.now))) h.new result }
 {
     match options(words) {
-        Some(census) => run(alloc, census, source, sink, h),
+        Some(running) => run(rt, alloc, running, source, sink, gate, h),
         None => {
             write_usage(sink);
             Status::Usage

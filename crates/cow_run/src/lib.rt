@@ -8,6 +8,7 @@
 mod command;
 mod input;
 mod lines;
+mod options;
 mod output;
 mod run;
 mod status;

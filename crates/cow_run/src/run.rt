@@ -1,14 +1,14 @@
 // Running a script: from a source to a sink.
-ghost use Rattle.std.specs.Prelude.{◌≡◌, ◌≢◌, ℕ, ◌+◌, ◌^◌, ◌≤◌, [], true, None, length, OnOk, OnErr, IsErrOf};
+ghost use Rattle.std.specs.Prelude.{◌≡◌, ◌≢◌, ℕ, ◌+◌, ◌*◌, ◌^◌, ◌≤◌, [], All, length, OnOk, OnErr, IsErrOf};
 ghost use Rattle.std.specs.Io.KnownBytes.{Appends};
 ghost use Rattle.cow_model.specs.Env.{start};
 ghost use Rattle.cow_model.specs.Atoms.{IsBareLayer, IsBareBlock};
-ghost use Rattle.cow_model.specs.Purse.{whole, RisesBy};
+ghost use Rattle.cow_model.specs.Purse.{whole, RisesBy, RisesWithin};
 ghost use Rattle.cow_model.specs.Run.{run_one, text_of, bound, least_layer, least};
 ghost use Rattle.cow_model.specs.declared.statement.Statement.{out-Statement};
-ghost use Rattle.cow_eval.specs.Statements as built;
-ghost use Rattle.cow_eval.specs.Envs.{CanRun, Costs, env_of, IsBare, Balances};
-ghost use Rattle.cow_eval.specs.Statements.{IsRunnable};
+ghost use Rattle.cow_eval.specs.Entries.{most_units};
+ghost use Rattle.cow_eval.specs.Envs.{CanRun, env_of, IsBare, Balances};
+ghost use Rattle.cow_tasks.specs.Blocks.{HasParts, IsRunnableLayer, count_in, count_of};
 ghost use Rattle.cow_port.specs.Causes.{Rose};
 ghost use Rattle.cow_run.specs.Input.{max_bytes};
 ghost use Rattle.cow_run.specs.Output.{WritesFront};
@@ -16,17 +16,21 @@ ghost use Rattle.cow_run.specs.Answer.{Answers, stock_units, whole_text};
 ghost use Rattle.cow_run.specs.Runs.{IsRead, SaysUnits, StatementsAnswered, BytesAnswered};
 
 use crate::input::{ReadStop, read_all};
+use crate::options::Running;
 use crate::output::{write_all, write_census, write_fault, write_not_built};
 use crate::status::Status;
 use cow_cell::{Holder, Stock};
-use cow_eval::{Env, first_unbuilt, run_statement};
+use cow_crew::Gate;
+use cow_eval::Env;
 use cow_item::Atom;
 use cow_kinds::Value;
-use cow_model::{NoMemory, Statement};
+use cow_model::{NoMemory, Script, Statement};
 use cow_port::{Failed, Sink, Source};
 use cow_script::{ParseFault, ParseStop, parse};
+use cow_tasks::{first_unbuilt, run_statement};
 use cow_value::Values;
 use std::alloc::Global;
+use std::thread::Threads;
 
 /// The units of a stock.
 const STOCK: u64 = 0x4000_0000_0000_0000;
@@ -68,24 +72,32 @@ impl From<Failed> for RunStop {
 }
 
 // Runs a statement, and writes what it prints. `text` is room for that.
-fn run_and_write<V: Values<Q>, Q: Stock, K: Sink>(
+fn run_and_write<R: Threads + Sync, V: Values<Q> + Send, Q: Stock + Send + Sync, K: Sink, G: Gate>(
+    rt: &R,
     alloc: Global,
     statement: &Statement,
     env: &mut Env<V, Q>,
+    gate: &G,
+    workers: u32,
     text: &mut Vec<u8>,
     sink: &mut K,
     h: &mut Holder<Q>,
 ) -> Result<(), RunStop>
-    requires statement { IsRunnable (out-Statement statement.now) }
-    requires ready { CanRun 1 env.old h.old }
-    ensures next { (n : ℕ) → CanRun (n + 1) env.old h.old → OnOk result (CanRun n env.new h.new) }
+    requires statement { IsRunnableLayer (out-Statement statement.now) }
+    requires workers { 1 ≤ workers }
+    requires ready { CanRun (count_of (out-Statement statement.now)) env.old h.old }
+    requires parts { HasParts (count_of (out-Statement statement.now)) h.old }
+    ensures next { (n : ℕ) → CanRun (n + count_of (out-Statement statement.now)) env.old h.old →
+        OnOk result (CanRun n env.new h.new) }
     ensures env { OnOk result (env_of env.new ≡ (run_one (env_of env.old) [] statement.now).env) }
     ensures ok { OnOk result (Appends (K.held sink.old) (K.held sink.new)
         (run_one (env_of env.old) [] statement.now).text) }
     ensures err { OnErr result (WritesFront (K.held sink.old) (K.held sink.new)
         (run_one (env_of env.old) [] statement.now).text) }
     ensures most { env.new.allowed ≤ (run_one (env_of env.old) [] statement.now).env.allowed }
-    ensures costs { Costs 0 1 env.old env.new h.old h.new }
+    ensures copied { RisesWithin env.old.allowed env.new.allowed h.old h.new }
+    ensures falls { OnOk result
+        (h.old.spare ≤ h.new.spare + count_of (out-Statement statement.now) * most_units) }
     ensures least { OnOk result (RisesBy (least_layer (env_of env.old) (out-Statement statement.now)) h.old h.new) }
     ensures bare { IsBare V.counted env.old.names → IsBareLayer V.counted (out-Statement statement.now) →
         OnOk result (Balances V.counted 0 env.old.names env.new.names h.old h.new) }
@@ -93,21 +105,25 @@ fn run_and_write<V: Values<Q>, Q: Stock, K: Sink>(
     ensures later { K.faults sink.old ≤ K.faults sink.new }
 {
     text.clear();
-    run_statement(alloc, statement, env, h, text)?;
+    run_statement(rt, alloc, statement, env, gate, workers, h, text)?;
     write_all(sink, text)?;
     Ok(())
 }
 
 // Runs statements in turn, and writes what each prints before the next one runs.
-fn run_statements<V: Values<Q>, Q: Stock, K: Sink>(
+fn run_statements<R: Threads + Sync, V: Values<Q> + Send, Q: Stock + Send + Sync, K: Sink, G: Gate>(
+    rt: &R,
     alloc: Global,
     statements: &[Statement],
     env: &mut Env<V, Q>,
+    gate: &G,
+    workers: u32,
     sink: &mut K,
     h: &mut Holder<Q>,
 ) -> Result<(), RunStop>
-    requires built { built.unbuilt_line statements.now ≡ None }
-    requires read { IsRead statements.now }
+    requires runs { All (λ s. IsRunnableLayer (out-Statement s)) statements.now }
+    requires few { count_in statements.now ≤ 2 ^ 21 }
+    requires workers { 1 ≤ workers }
     requires start { env_of env.old ≡ start }
     requires empty { env.old.names ≡ [] }
     requires fresh { h.old ≡ whole }
@@ -123,27 +139,30 @@ fn run_statements<V: Values<Q>, Q: Stock, K: Sink>(
 {
     let mut text = Vec::new(alloc);
     for statement in statements {
-        run_and_write(alloc, statement, env, &mut text, sink, h)?;
+        run_and_write(rt, alloc, statement, env, gate, workers, &mut text, sink, h)?;
     }
     Ok(())
 }
 
 // Runs a script over values of this type, writes the census where it is asked for, and ends the values of
 // all names.
-fn run_script<V: Values<Q>, Q: Stock, K: Sink>(
+fn run_script<R: Threads + Sync, V: Values<Q> + Send, Q: Stock + Send + Sync, K: Sink, G: Gate>(
+    rt: &R,
     alloc: Global,
     statements: &[Statement],
-    census: bool,
+    running: Running,
     sink: &mut K,
+    gate: &G,
     h: &mut Holder<Q>,
 ) -> Result<(), RunStop>
-    requires built { built.unbuilt_line statements.now ≡ None }
-    requires read { IsRead statements.now }
+    requires runs { All (λ s. IsRunnableLayer (out-Statement s)) statements.now }
+    requires few { count_in statements.now ≤ 2 ^ 21 }
+    requires workers { 1 ≤ running.workers }
     requires fresh { h.old ≡ whole }
     ensures ok { OnOk result (Appends (K.held sink.old) (K.held sink.new)
-        (whole_text census h.new.copied statements.now)) }
+        (whole_text running.census h.new.copied statements.now)) }
     ensures err { OnErr result (WritesFront (K.held sink.old) (K.held sink.new)
-        (whole_text census h.new.copied statements.now)) }
+        (whole_text running.census h.new.copied statements.now)) }
     ensures most { h.new.copied ≤ bound statements.now [] }
     ensures least { OnOk result (least statements.now [] ≤ h.new.copied) }
     ensures bare { IsBareBlock V.counted statements.now → OnOk result (h.new.spare ≡ stock_units) }
@@ -151,8 +170,17 @@ fn run_script<V: Values<Q>, Q: Stock, K: Sink>(
     ensures later { K.faults sink.old ≤ K.faults sink.new }
 {
     let mut env = Env::<V, Q>::new(alloc);
-    run_statements(alloc, statements, &mut env, sink, h)?;
-    write_census(sink, census, h.copied(), env.allowed())?;
+    run_statements(
+        rt,
+        alloc,
+        statements,
+        &mut env,
+        gate,
+        running.workers,
+        sink,
+        h,
+    )?;
+    write_census(sink, running.census, h.copied(), env.allowed())?;
     env.end(h);
     Ok(())
 }
@@ -170,24 +198,30 @@ fn counted<Q: Stock>(h: &Holder<Q>) -> Status
     }
 }
 
-// Runs the statements of a script over the values of all kinds, unless one of them isn't built.
-fn run_built<Q: Stock, K: Sink>(
+// Runs a script over the values of all kinds, unless one of them isn't built.
+fn run_built<R: Threads + Sync, Q: Stock + Send + Sync, K: Sink, G: Gate>(
+    rt: &R,
     alloc: Global,
-    statements: &[Statement],
-    census: bool,
+    script: &Script,
+    running: Running,
     sink: &mut K,
+    gate: &G,
     h: &mut Holder<Q>,
 ) -> Status
-    requires read { IsRead statements.now }
+    requires read { IsRead script.now.statements }
+    requires workers { 1 ≤ running.workers }
     requires fresh { h.old ≡ whole }
-    ensures answer { StatementsAnswered (K.held sink.old) (K.held sink.new) (Rose (K.faults sink.old) (K.faults sink.new)) census statements.now h.new result }
+    ensures answer { StatementsAnswered (K.held sink.old) (K.held sink.new) (Rose (K.faults sink.old) (K.faults sink.new)) running.census script.now.statements h.new result }
     ensures write_fault { result ≡ Status.WriteFault → Rose (K.faults sink.old) (K.faults sink.new) }
 {
-    if let Some(line) = first_unbuilt(statements) {
+    if let Some(line) = first_unbuilt(script) {
         write_not_built(sink, line);
         return Status::NotYet { line };
     }
-    match run_script::<Value<Atom<Q>, Q>, Q, K>(alloc, statements, census, sink, h) {
+    let statements = script.statements.as_slice();
+    match run_script::<R, Value<Atom<Q>, Q>, Q, K, G>(
+        rt, alloc, statements, running, sink, gate, h,
+    ) {
         Ok(()) => counted(h),
         Err(RunStop::WriteFault) => Status::WriteFault,
         Err(RunStop::NoMemory) => Status::NoMemory,
@@ -195,22 +229,25 @@ fn run_built<Q: Stock, K: Sink>(
 }
 
 // Runs the script that these bytes are, where they are one.
-fn run_bytes<Q: Stock, K: Sink>(
+fn run_bytes<R: Threads + Sync, Q: Stock + Send + Sync, K: Sink, G: Gate>(
+    rt: &R,
     alloc: Global,
     bytes: &[u8],
-    census: bool,
+    running: Running,
     sink: &mut K,
+    gate: &G,
     h: &mut Holder<Q>,
 ) -> Status
     requires short { length bytes.now ≤ max_bytes }
+    requires workers { 1 ≤ running.workers }
     requires fresh { h.old ≡ whole }
     ensures usage { result ≢ Status.Usage }
     ensures read_fault { result ≢ Status.ReadFault }
-    ensures answer { BytesAnswered (K.held sink.old) (K.held sink.new) (Rose (K.faults sink.old) (K.faults sink.new)) census bytes.now h.new result }
+    ensures answer { BytesAnswered (K.held sink.old) (K.held sink.new) (Rose (K.faults sink.old) (K.faults sink.new)) running.census bytes.now h.new result }
     ensures write_fault { result ≡ Status.WriteFault → Rose (K.faults sink.old) (K.faults sink.new) }
 {
     match parse(alloc, bytes) {
-        Ok(script) => run_built(alloc, script.statements.as_slice(), census, sink, h),
+        Ok(script) => run_built(rt, alloc, &script, running, sink, gate, h),
         Err(ParseStop::Fault(fault)) => {
             write_fault(sink, fault);
             Status::Script(fault)
@@ -221,22 +258,25 @@ fn run_bytes<Q: Stock, K: Sink>(
 
 /// Reads a script from the source to its end, runs it, and writes what it prints to the sink, and the census
 /// where it is asked for.
-pub fn run<Q: Stock, S: Source, K: Sink>(
+pub fn run<R: Threads + Sync, Q: Stock + Send + Sync, S: Source, K: Sink, G: Gate>(
+    rt: &R,
     alloc: Global,
-    census: bool,
+    running: Running,
     source: &mut S,
     sink: &mut K,
+    gate: &G,
     h: &mut Holder<Q>,
 ) -> Status
+    requires workers { 1 ≤ running.workers }
     requires fresh { h.old ≡ whole }
     ensures usage { result ≢ Status.Usage }
     ensures answer { Answers (S.left source.old) (S.left source.new) (K.held sink.old) (K.held sink.new)
-        (Rose (K.faults sink.old) (K.faults sink.new)) census h.new result }
+        (Rose (K.faults sink.old) (K.faults sink.new)) running.census h.new result }
     ensures read_fault { result ≡ Status.ReadFault → Rose (S.faults source.old) (S.faults source.new) }
     ensures write_fault { result ≡ Status.WriteFault → Rose (K.faults sink.old) (K.faults sink.new) }
 {
     match read_all(alloc, source) {
-        Ok(bytes) => run_bytes(alloc, &bytes, census, sink, h),
+        Ok(bytes) => run_bytes(rt, alloc, &bytes, running, sink, gate, h),
         Err(ReadStop::Failed) => Status::ReadFault,
         Err(ReadStop::NoMemory) => Status::NoMemory,
         Err(ReadStop::TooLong) => {

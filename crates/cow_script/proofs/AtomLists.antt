@@ -10,6 +10,7 @@ use Rattle.cow_model.specs.Readers.{and_then, atoms_from, all_atoms, max_atoms, 
 use Rattle.cow_lexis.specs.declared.stop.Stop.{Stop}
 use Rattle.cow_lexis.specs.declared.stop.Stop.TheVariants as stop
 use Rattle.cow_lexis.specs.Reads.{Fails, atom_ahead}
+use Rattle.cow_script.specs.Atoms.{one_more}
 
 -- atoms, and then those of tokens to come
 abbrev pub and_atoms : List Literal → Result (List Literal) Flaw → Result (List Literal) Flaw
@@ -65,10 +66,6 @@ none_by (Err flaw) rest left is = cc
 flaw_by : (answer : Result Literal Flaw) (rest : List Text) (flaw : Flaw) → ahead_by answer rest ≡ Err flaw → answer ≡ Err flaw
 flaw_by (Ok a) rest flaw is = cc
 flaw_by (Err other) rest flaw is = cc
-
--- what `one_more_atom` answers
-abbrev pub one_more : ℕ → Result (Unit {0}) Flaw
-one_more n = if nat_lt n max_atoms then Ok tt else Err (Limit (max_atoms + 1) max_atoms)
 
 abbrev room : Bool → Flaw → Result (Unit {0}) Flaw
 room t full = cond t (Ok tt) (Err full)

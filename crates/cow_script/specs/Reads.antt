@@ -4,6 +4,7 @@ use Rattle.std.specs.Borrow.{Bor}
 use Rattle.cow_model.specs.declared.fault.Flaw.{Flaw}
 use Rattle.cow_model.specs.declared.fault.Flaw.TheVariants.{BadWord}
 use Rattle.cow_model.specs.declared.fault.ParseFault.{ParseFault}
+use Rattle.cow_model.specs.declared.statement.Script.{Script}
 use Rattle.cow_model.specs.declared.statement.Statement.{Statement}
 use Rattle.cow_model.specs.Lexis.{Text}
 use Rattle.cow_model.specs.Parse.{fault_at}
@@ -11,7 +12,6 @@ use Rattle.cow_lexis.specs.declared.stop.Stop.{Stop}
 use Rattle.cow_lexis.specs.declared.stop.Stop.TheVariants as stop
 use Rattle.cow_script.specs.declared.script.ParseStop.{ParseStop}
 use Rattle.cow_script.specs.declared.script.ParseStop.TheVariants as parse_stop
-use Rattle.cow_script.specs.declared.script.Script.{Script}
 
 -- the bytes are no script: they have this fault, or memory ran out
 abbrev pub Stops : Result (List Statement) ParseFault → ParseStop → Type 0

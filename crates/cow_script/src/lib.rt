@@ -28,8 +28,8 @@
 //!
 //! # What a caller may use
 //!
-//! [`parse`], [`Script`], [`ParseStop`] and [`ParseFault`]; the types of statements are those of
-//! `cow_model`. A contract above cites `script_of`, and what it says of a script holds of
+//! [`parse`], [`ParseStop`], and [`Script`] and [`ParseFault`] of `cow_model`, of which the types of
+//! statements are too. A contract above cites `script_of`, and what it says of a script holds of
 //! `script.statements`. One that prints cites `Printed` of `cow_model`, and `plain_of` and `pair_of` of
 //! `specs/Shown.antt`.
 //!
@@ -51,5 +51,5 @@ mod statement;
 mod value;
 mod words;
 
-pub use cow_model::ParseFault;
-pub use script::{ParseStop, Script, parse};
+pub use cow_model::{ParseFault, Script};
+pub use script::{ParseStop, parse};

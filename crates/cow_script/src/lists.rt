@@ -1,8 +1,8 @@
 // Lists up to the end of a line.
-ghost use Rattle.std.specs.Prelude.{◌≡◌, ◌+◌, nat_lt, Ok, Err, if◌then◌else◌};
+ghost use Rattle.std.specs.Prelude.{◌≡◌};
 ghost use Rattle.cow_model.specs.Readers as spec;
-ghost use Rattle.cow_model.specs.declared.fault.Flaw.TheVariants.{Limit};
 ghost use Rattle.cow_lexis.specs.Reads.{Gives, Reads};
+ghost use Rattle.cow_script.specs.Atoms.{one_more};
 
 use crate::readers::name;
 use crate::words::group;
@@ -16,7 +16,7 @@ const MAX_ATOMS: usize = 65_536;
 
 // One more atom may stand behind `n` others.
 fn one_more_atom(n: usize) -> Result<(), Flaw>
-    ensures { result ≡ if nat_lt n spec.max_atoms then Ok tt else Err (Limit (spec.max_atoms + 1) spec.max_atoms) }
+    ensures { result ≡ one_more n }
 {
     if n >= MAX_ATOMS {
         return Err(Flaw::Limit {
@@ -32,7 +32,8 @@ pub fn all_atoms(alloc: Global, tokens: &mut Tokens<'_>) -> Result<Items<Literal
     ensures { Reads (spec.all_atoms tokens.old) result tokens.new }
 {
     let mut atoms = Vec::new(alloc);
-    while let Some(atom) = tokens.next_atom(alloc)? {
+    let mut content = Vec::new(alloc);
+    while let Some(atom) = tokens.next_atom(alloc, &mut content)? {
         one_more_atom(atoms.len())?;
         atoms.push(atom)?;
     }

@@ -41,7 +41,8 @@ pub fn due_name(alloc: Global, tokens: &mut Tokens<'_>) -> Result<Name, Stop>
 pub fn due_atom(alloc: Global, tokens: &mut Tokens<'_>) -> Result<Literal, Stop>
     ensures { Reads (spec.due_atom tokens.old) result tokens.new }
 {
-    match tokens.next_atom(alloc)? {
+    let mut content = Vec::new(alloc);
+    match tokens.next_atom(alloc, &mut content)? {
         Some(atom) => Ok(atom),
         None => Err(Stop::Flaw(Flaw::BadWord)),
     }

@@ -5,16 +5,10 @@ ghost use Rattle.cow_script.specs.Reads.{Parses, stop_at};
 
 use crate::line::with_line;
 use cow_lexis::{Stop, next_line};
-use cow_model::{Flaw, ParseFault, Reading, Standing, Statement};
+use cow_model::{Flaw, ParseFault, Reading, Script, Standing};
 use sqlite_items::Items;
 use std::alloc::Global;
 use thiserror::Error;
-
-/// A script as it was read.
-#[derive(Drop)]
-pub struct Script {
-    pub statements: Items<Statement>,
-}
 
 /// Why no script was read.
 #[derive(Clone, Copy, Debug, PartialEq, Eq, Error)]

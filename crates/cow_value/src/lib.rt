@@ -7,12 +7,12 @@
 //! - [`Collection`] is implemented by each kind and by the type `V` of all kinds.
 //! - [`Values`] is the type of all kinds that are built. The layer above is generic in it,
 //!   `V: Values<Q>`: it sees no kind, no element and no storage.
-//! - What a statement tells of itself without a value: its line, its number of literals, whether it
-//!   is built.
+//! - What a statement tells of itself without a value: its number of literals, and where it isn't
+//!   built its line.
 #![tactic(auto)]
 
 mod collection;
 mod statements;
 
 pub use collection::{Collection, Shown, Values};
-pub use statements::{added, is_built, line, literals};
+pub use statements::{added, literals, unbuilt_line};

@@ -1,4 +1,4 @@
-//! The program: joins the top call to the command line, to the system's streams, and to a new stock.
+//! The program: joins the top call to the command line, to the system's streams and threads, and to a new stock.
 //!
 //! No proof speaks of what the command line and the streams give and take. Without memory for the words
 //! nothing is read or written, and the status is that of want of memory.
@@ -7,11 +7,13 @@
 ghost use Rattle.cow_cell.specs.Opens.{Opens};
 
 use cow_cell::{Holder, Opening, Stock};
-use cow_port::{ReaderSource, WriterSink};
+use cow_crew::OpenGate;
+use cow_port::{ReaderSource, Sink, Source, WriterSink};
 use cow_run::{Status, cowrun};
 use std::alloc::{AllocError, Global};
 use std::marker::Brand;
 use std::process::ExitCode;
+use std::thread::Threads;
 use std::{env, io};
 
 // The words behind the program's name. Where one of them is no text there are none, which is no option.
@@ -28,29 +30,43 @@ fn words_given(rt: &HostRuntime) -> Result<Vec<String>, AllocError> {
     Ok(words)
 }
 
-// Runs over standard input and output, and over the stock that is opened.
-fn run_words<Q: Stock>(
-    rt: &HostRuntime,
+// The words, as the top call takes them.
+fn as_strs(alloc: Global, words: &[String]) -> Result<Vec<&str>, AllocError> {
+    words.iter().map(|word| word.as_str()).collect(alloc)
+}
+
+// Runs over the stock that is opened.
+fn run_words<R: Threads + Sync, Q: Stock + Send + Sync, S: Source, K: Sink>(
+    rt: &R,
     alloc: Global,
+    words: &[&str],
+    source: &mut S,
+    sink: &mut K,
     opening: Opening,
-) -> Result<Status, AllocError>
+) -> Status
     requires { Opens Q.Stock opening }
 {
-    let words = words_given(rt)?;
-    let words: Vec<&str> = words.iter().map(|word| word.as_str()).collect(alloc)?;
+    let mut h = Holder::<Q>::fresh(opening);
+    cowrun(rt, alloc, words, source, sink, &OpenGate, &mut h)
+}
+
+fn main(rt: HostRuntime) -> ExitCode {
+    let alloc = rt.alloc();
+    let Ok(given) = words_given(&rt) else {
+        return ExitCode::from(Status::NoMemory);
+    };
+    let Ok(words) = as_strs(alloc, &given) else {
+        return ExitCode::from(Status::NoMemory);
+    };
     let mut source = ReaderSource {
         reader: rt.reader(),
         faults: 0,
     };
     let mut sink = WriterSink {
-        writer: io::writer(rt),
+        writer: io::writer(&rt),
         faults: 0,
     };
-    let mut h = Holder::<Q>::fresh(opening);
-    Ok(cowrun(alloc, &words, &mut source, &mut sink, &mut h))
-}
-
-fn main(rt: HostRuntime) -> ExitCode {
-    let status = run_words::<Brand>(&rt, rt.alloc(), Opening::new());
-    ExitCode::from(status.unwrap_or(Status::NoMemory))
+    let opening = Opening::new();
+    let status = run_words::<_, Brand, _, _>(&rt, alloc, &words, &mut source, &mut sink, opening);
+    ExitCode::from(status)
 }

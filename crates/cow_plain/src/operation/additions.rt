@@ -1,5 +1,5 @@
 // Statements that make a value or add to it.
-ghost use Rattle.std.specs.Prelude.{◌≡◌, ◌≤◌, length, fold, [], IfOk};
+ghost use Rattle.std.specs.Prelude.{◌≡◌, ◌≤◌, ◌++◌, ◌∷◌, length, fold, [], IfOk};
 ghost use Rattle.std.specs.List as list;
 ghost use Rattle.cow_model.specs.Members as members;
 ghost use Rattle.cow_model.specs.Operation as spec;
@@ -17,38 +17,55 @@ use cow_model::{Kind, Literal, NoMemory, Pair, Plain};
 use sqlite_items::Items;
 use std::alloc::Global;
 
-// The members among the atoms.
-fn set_of(alloc: Global, placing: Placing, atoms: &[Literal]) -> Result<Items<Literal>, NoMemory>
-    ensures { IfOk result (λ made. made ≡ members.union (placing_of placing) [] atoms.now) }
+// The set of the atoms.
+fn set_of(
+    alloc: Global,
+    kind: Listed,
+    placing: Placing,
+    atoms: &[Literal],
+) -> Result<Plain, NoMemory>
+    ensures { IfOk result (λ value. value ≡ of_items kind (members.union (placing_of placing) [] atoms.now)) }
 {
     let empty = Items::new(alloc);
-    union(alloc, placing, empty.as_slice(), atoms)
+    Ok(kind.of(union(alloc, placing, empty.as_slice(), atoms)?))
 }
 
 // The map of keys and values in turn.
-fn map_of(alloc: Global, placing: Placing, atoms: &[Literal]) -> Result<Items<Pair>, NoMemory>
-    ensures { IfOk result (λ made. made ≡ fold (pairs.put (pair_placing_of placing)) [] (pairs.paired atoms.now)) }
+fn map_of(
+    alloc: Global,
+    kind: Mapped,
+    placing: Placing,
+    atoms: &[Literal],
+) -> Result<Plain, NoMemory>
+    ensures { IfOk result (λ value. value ≡ of_pairs kind (fold (pairs.put (pair_placing_of placing)) [] (pairs.paired atoms.now))) }
 {
     let empty = Items::new(alloc);
     let pairs = paired(alloc, atoms)?;
-    put_all(alloc, placing, empty.as_slice(), pairs.as_slice())
+    Ok(kind.of(put_all(alloc, placing, empty.as_slice(), pairs.as_slice())?))
+}
+
+// The heap of the atoms.
+fn heap_of(alloc: Global, atoms: &[Literal]) -> Result<Plain, NoMemory>
+    ensures { IfOk result (λ value. value ≡ Plain.Heap (members.ascending atoms.now)) }
+{
+    Ok(Plain::Heap(ascending(alloc, atoms)?))
 }
 
 /// `let N = KIND A*`: each atom or pair is added in order.
 pub fn made(alloc: Global, kind: Kind, atoms: &[Literal]) -> Result<Plain, NoMemory>
     ensures { IfOk result (λ value. value ≡ spec.made kind atoms.now) }
 {
-    Ok(match kind {
-        Kind::Array => Plain::Array(copied(alloc, atoms)?),
-        Kind::Deque => Plain::Deque(copied(alloc, atoms)?),
-        Kind::Set => Plain::Set(set_of(alloc, Placing::InOrder, atoms)?),
-        Kind::Dict => Plain::Dict(map_of(alloc, Placing::InOrder, atoms)?),
-        Kind::OSet => Plain::OSet(set_of(alloc, Placing::Last, atoms)?),
-        Kind::ODict => Plain::ODict(map_of(alloc, Placing::Last, atoms)?),
-        Kind::Heap => Plain::Heap(ascending(alloc, atoms)?),
-        Kind::TSet => Plain::TSet(set_of(alloc, Placing::InOrder, atoms)?),
-        Kind::TDict => Plain::TDict(map_of(alloc, Placing::InOrder, atoms)?),
-    })
+    match kind {
+        Kind::Array => Listed::Array.copied(alloc, atoms),
+        Kind::Deque => Listed::Deque.copied(alloc, atoms),
+        Kind::Set => set_of(alloc, Listed::Set, Placing::InOrder, atoms),
+        Kind::Dict => map_of(alloc, Mapped::Dict, Placing::InOrder, atoms),
+        Kind::OSet => set_of(alloc, Listed::OSet, Placing::Last, atoms),
+        Kind::ODict => map_of(alloc, Mapped::ODict, Placing::Last, atoms),
+        Kind::Heap => heap_of(alloc, atoms),
+        Kind::TSet => set_of(alloc, Listed::TSet, Placing::InOrder, atoms),
+        Kind::TDict => map_of(alloc, Mapped::TDict, Placing::InOrder, atoms),
+    }
 }
 
 // A set with a member, and if it is new.
@@ -87,24 +104,39 @@ fn joined_at(
     }
 }
 
+// A list with an atom at its end.
+fn added_to(
+    alloc: Global,
+    kind: Listed,
+    atom: &Literal,
+    items: &[Literal],
+) -> Result<Answer, NoMemory>
+    ensures { IfOk result (λ answer. answer ≡ spec.silent (of_items kind (items.now ++ atom.now ∷ []))) }
+{
+    silent(alloc, kind.of(inserted(alloc, items, items.len(), atom)?))
+}
+
+// A slice with an atom at its end.
+fn added_to_slice(
+    alloc: Global,
+    start: u64,
+    atom: &Literal,
+    items: &[Literal],
+) -> Result<Answer, NoMemory>
+    ensures { IfOk result (λ answer. answer ≡ spec.append atom.now (Plain.Slice start items.now)) }
+{
+    let items = inserted(alloc, items, items.len(), atom)?;
+    silent(alloc, Plain::Slice { start, items })
+}
+
 /// `append N A`: one more element at the end, or member of an ordered set, which says if it is new.
 pub fn append(alloc: Global, atom: &Literal, value: &Plain) -> Result<Answer, NoMemory>
     ensures { IfOk result (λ answer. answer ≡ spec.append atom.now value.now) }
 {
     match value {
-        Plain::Array(items) => silent(
-            alloc,
-            Plain::Array(inserted(alloc, items.as_slice(), items.len(), atom)?),
-        ),
-        Plain::Slice { start, items } => {
-            let start = *start;
-            let items = inserted(alloc, items.as_slice(), items.len(), atom)?;
-            silent(alloc, Plain::Slice { start, items })
-        }
-        Plain::Deque(items) => silent(
-            alloc,
-            Plain::Deque(inserted(alloc, items.as_slice(), items.len(), atom)?),
-        ),
+        Plain::Array(items) => added_to(alloc, Listed::Array, atom, items.as_slice()),
+        Plain::Slice { start, items } => added_to_slice(alloc, *start, atom, items.as_slice()),
+        Plain::Deque(items) => added_to(alloc, Listed::Deque, atom, items.as_slice()),
         Plain::OSet(items) => joined(alloc, Listed::OSet, Placing::Last, atom, items.as_slice()),
         _ => wrong(),
     }

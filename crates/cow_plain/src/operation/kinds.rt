@@ -1,9 +1,11 @@
 // Values by what they are lists of.
-ghost use Rattle.std.specs.Prelude.{◌≡◌};
+ghost use Rattle.std.specs.Prelude.{◌≡◌, IfOk};
 ghost use Rattle.cow_plain.specs.Kinds.{of_items, of_pairs};
 
-use cow_model::{Literal, Pair, Plain};
+use crate::lists::copied;
+use cow_model::{Literal, NoMemory, Pair, Plain};
 use sqlite_items::Items;
+use std::alloc::Global;
 
 /// A kind of values that are lists of atoms.
 #[derive(Clone, Copy, Debug)]
@@ -30,6 +32,13 @@ impl Listed {
             Listed::TSet => Plain::TSet(items),
         }
     }
+
+    /// The value of copies of these atoms.
+    pub fn copied(self, alloc: Global, items: &[Literal]) -> Result<Plain, NoMemory>
+        ensures { IfOk result (λ value. value ≡ of_items self items.now) }
+    {
+        Ok(self.of(copied(alloc, items)?))
+    }
 }
 
 /// A kind of values that are lists of pairs.
@@ -50,5 +59,12 @@ impl Mapped {
             Mapped::ODict => Plain::ODict(pairs),
             Mapped::TDict => Plain::TDict(pairs),
         }
+    }
+
+    /// The value of copies of these pairs.
+    pub fn copied(self, alloc: Global, pairs: &[Pair]) -> Result<Plain, NoMemory>
+        ensures { IfOk result (λ value. value ≡ of_pairs self pairs.now) }
+    {
+        Ok(self.of(copied(alloc, pairs)?))
     }
 }

@@ -1,8 +1,10 @@
 // Statements that take something out of a value.
 ghost use Rattle.std.specs.Prelude.{◌≡◌, ◌<◌, length, IfOk, IfSome};
+ghost use Rattle.std.specs.List as list;
 ghost use Rattle.cow_model.specs.Members as members;
 ghost use Rattle.cow_model.specs.Operation as spec;
 ghost use Rattle.cow_model.specs.Pairs as maps;
+ghost use Rattle.cow_model.specs.Printed as printed;
 ghost use Rattle.cow_plain.specs.Kinds.{of_items, of_pairs};
 
 use crate::lists::{copied, removed};
@@ -59,11 +61,26 @@ fn removed_member(
 {
     match place_in(atom, items) {
         Some(at) => removed_item(alloc, kind, items, at),
-        None => replies(alloc, b"nil", kind.of(copied(alloc, items)?)),
+        None => replies(alloc, b"nil", kind.copied(alloc, items)?),
     }
 }
 
-// The pair of a key goes, where it is there, and its value is printed.
+// The pair of a key goes that stands at a place, and its value is printed.
+fn taken(
+    alloc: Global,
+    kind: Mapped,
+    key: &Literal,
+    pairs: &[Pair],
+    at: usize,
+) -> Result<Answer, NoMemory>
+    requires { at < length pairs.now }
+    ensures { IfOk result (λ answer. answer ≡ spec.replies (spec.value_under key.now pairs.now) (of_pairs kind (list.remove pairs.now at))) }
+{
+    let old = nil_or(alloc, value_in(key, pairs))?;
+    replies(alloc, old.as_slice(), kind.of(removed(alloc, pairs, at)?))
+}
+
+// The pair of a key goes, where it is there.
 fn removed_key(
     alloc: Global,
     kind: Mapped,
@@ -73,11 +90,8 @@ fn removed_key(
     ensures { IfOk result (λ answer. answer ≡ spec.removed_key (of_pairs kind) pairs.now key.now (maps.place_in key.now pairs.now)) }
 {
     match pairs::place_in(key, pairs) {
-        Some(at) => {
-            let old = nil_or(alloc, value_in(key, pairs))?;
-            replies(alloc, old.as_slice(), kind.of(removed(alloc, pairs, at)?))
-        }
-        None => replies(alloc, b"nil", kind.of(copied(alloc, pairs)?)),
+        Some(at) => taken(alloc, kind, key, pairs, at),
+        None => replies(alloc, b"nil", kind.copied(alloc, pairs)?),
     }
 }
 
@@ -99,17 +113,16 @@ pub fn remove(alloc: Global, x: &Literal, value: &Plain) -> Result<Answer, NoMem
 }
 
 // The pair at a place goes.
-fn removed_pair(alloc: Global, i: i64, pairs: &[Pair]) -> Result<Answer, NoMemory>
-    ensures { IfOk result (λ answer. answer ≡ spec.remove_at i (Plain.ODict pairs.now)) }
+fn removed_pair(alloc: Global, pairs: &[Pair], at: usize) -> Result<Answer, NoMemory>
+    requires { at < length pairs.now }
+    ensures { IfOk result (λ answer. answer ≡ spec.replies (spec.pair pairs.now at) (Plain.ODict (list.remove pairs.now at))) }
 {
-    match index(0, pairs.len(), i) {
-        Some(at) => {
-            let old = nil_or(alloc, pairs.get(at))?;
-            let pairs = removed(alloc, pairs, at)?;
-            replies(alloc, old.as_slice(), Plain::ODict(pairs))
-        }
-        None => out_of_range(),
-    }
+    let old = nil_or(alloc, pairs.get(at))?;
+    replies(
+        alloc,
+        old.as_slice(),
+        Plain::ODict(removed(alloc, pairs, at)?),
+    )
 }
 
 /// `removeat N I`: the element or pair at a place goes and is printed.
@@ -121,9 +134,25 @@ pub fn remove_at(alloc: Global, i: i64, value: &Plain) -> Result<Answer, NoMemor
             Some(at) => removed_item(alloc, Listed::OSet, items.as_slice(), at),
             None => out_of_range(),
         },
-        Plain::ODict(pairs) => removed_pair(alloc, i, pairs.as_slice()),
+        Plain::ODict(pairs) => match index(0, pairs.len(), i) {
+            Some(at) => removed_pair(alloc, pairs.as_slice(), at),
+            None => out_of_range(),
+        },
         _ => wrong(),
     }
+}
+
+// A first element goes.
+fn popped(
+    alloc: Global,
+    kind: Listed,
+    first: &Literal,
+    others: &[Literal],
+) -> Result<Answer, NoMemory>
+    ensures { IfOk result (λ answer. answer ≡ spec.replies (printed.atom_text first.now) (of_items kind others.now)) }
+{
+    let text = atom_text(alloc, first)?;
+    replies(alloc, text.as_slice(), kind.copied(alloc, others)?)
 }
 
 // The first element goes, where there is one.
@@ -131,11 +160,8 @@ fn first_popped(alloc: Global, kind: Listed, items: &[Literal]) -> Result<Answer
     ensures { IfOk result (λ answer. answer ≡ spec.first_popped (of_items kind) items.now) }
 {
     match items {
-        [] => replies(alloc, b"nil", kind.of(copied(alloc, items)?)),
-        [first, others @ ..] => {
-            let text = atom_text(alloc, first)?;
-            replies(alloc, text.as_slice(), kind.of(copied(alloc, others)?))
-        }
+        [] => replies(alloc, b"nil", kind.copied(alloc, items)?),
+        [first, others @ ..] => popped(alloc, kind, first, others),
     }
 }
 
@@ -149,20 +175,29 @@ fn last_popped(alloc: Global, kind: Listed, items: &[Literal]) -> Result<Answer,
     replies(alloc, text.as_slice(), kind.of(items))
 }
 
+// A slice of copies of these atoms, and a line.
+fn replies_slice(
+    alloc: Global,
+    text: &[u8],
+    start: u64,
+    items: &[Literal],
+) -> Result<Answer, NoMemory>
+    ensures { IfOk result (λ answer. answer ≡ spec.replies text.now (Plain.Slice start items.now)) }
+{
+    let items = copied(alloc, items)?;
+    replies(alloc, text, Plain::Slice { start, items })
+}
+
 // The first element of a slice goes, where there is one, and with it its index.
 fn slice_popped(alloc: Global, start: u64, items: &[Literal]) -> Result<Answer, NoMemory>
     ensures { IfOk result (λ answer. answer ≡ spec.slice_popped start items.now) }
 {
     match items {
-        [] => {
-            let items = copied(alloc, items)?;
-            replies(alloc, b"nil", Plain::Slice { start, items })
-        }
+        [] => replies_slice(alloc, b"nil", start, items),
         [first, others @ ..] => {
-            let text = atom_text(alloc, first)?;
             let start = start.checked_add(1).ok_or(NoMemory)?;
-            let items = copied(alloc, others)?;
-            replies(alloc, text.as_slice(), Plain::Slice { start, items })
+            let text = atom_text(alloc, first)?;
+            replies_slice(alloc, text.as_slice(), start, others)
         }
     }
 }

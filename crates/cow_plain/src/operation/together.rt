@@ -2,11 +2,13 @@
 ghost use Rattle.std.specs.Prelude.{◌≡◌, IfOk};
 ghost use Rattle.cow_model.specs.Operation as spec;
 ghost use Rattle.cow_plain.specs.Combinings.{combined};
+ghost use Rattle.cow_plain.specs.Kinds.{of_items};
 ghost use Rattle.cow_plain.specs.Placings.{placing_of};
 
 use crate::lists::joined;
 use crate::members::{self, Placing};
 use crate::operation::answers::{Answer, silent, wrong};
+use crate::operation::kinds::Listed;
 use crate::pairs;
 use cow_model::{Literal, NoMemory, Plain};
 use sqlite_items::Items;
@@ -52,6 +54,24 @@ fn combined(
     }
 }
 
+// A set of two sets put together.
+fn set_of(
+    alloc: Global,
+    kind: Listed,
+    combining: Combining,
+    placing: Placing,
+    items: &Items<Literal>,
+    others: &Items<Literal>,
+) -> Result<Answer, NoMemory>
+    ensures { IfOk result (λ answer. answer ≡ spec.silent (of_items kind (combined combining (placing_of placing) items.now others.now))) }
+{
+    let (items, others) = (items.as_slice(), others.as_slice());
+    silent(
+        alloc,
+        kind.of(combined(alloc, combining, placing, items, others)?),
+    )
+}
+
 // A set operation on two values of one kind of sets.
 fn on_sets(
     alloc: Global,
@@ -63,19 +83,27 @@ fn on_sets(
 {
     match (value, other) {
         (Plain::Set(items), Plain::Set(others)) => {
-            let (items, others) = (items.as_slice(), others.as_slice());
-            let items = combined(alloc, combining, Placing::InOrder, items, others)?;
-            silent(alloc, Plain::Set(items))
+            set_of(
+                alloc,
+                Listed::Set,
+                combining,
+                Placing::InOrder,
+                items,
+                others,
+            )
         }
         (Plain::TSet(items), Plain::TSet(others)) => {
-            let (items, others) = (items.as_slice(), others.as_slice());
-            let items = combined(alloc, combining, Placing::InOrder, items, others)?;
-            silent(alloc, Plain::TSet(items))
+            set_of(
+                alloc,
+                Listed::TSet,
+                combining,
+                Placing::InOrder,
+                items,
+                others,
+            )
         }
         (Plain::OSet(items), Plain::OSet(others)) => {
-            let (items, others) = (items.as_slice(), others.as_slice());
-            let items = combined(alloc, combining, Placing::Last, items, others)?;
-            silent(alloc, Plain::OSet(items))
+            set_of(alloc, Listed::OSet, combining, Placing::Last, items, others)
         }
         _ => wrong(),
     }

@@ -1,19 +1,22 @@
-use Rattle.std.proofs.Common.{arith}
+use Rattle.std.proofs.Common.{length, arith}
 use Rattle.std.proofs.lemmas.Grind.{common_steps}
+use Rattle.cow_array.proofs.Costs.{trades-within, copies-light}
 use Rattle.cow_kinds.proofs.array.splice.Goals as goal
 
 pub returns-in-Err-clause-paid : goal.returns-in-Err-clause-paid
-returns-in-Err-clause-paid g c = record {
-  free = grind (arith, common_steps);
-  hidden = grind (arith, common_steps);
-  moved = record {
-    falls = grind (arith, common_steps);
-    rises = grind (arith, common_steps);
-    copied = grind (arith, common_steps);
-    kept = grind (arith, common_steps);
-  };
-  falls = grind (arith, common_steps);
-}
+returns-in-Err-clause-paid g c =
+    let within = trades-within g.T.Item.is_counted g.T.Item.WEIGHT c.args.a.now.alone c.in-Some.from c.in-Some.to c.args.a.now.value c.read_all.new.h c.replace.new.h (grind (arith, common_steps)) c.replace.ensures.paid in
+    record {
+      free = grind (arith, common_steps);
+      hidden = grind (arith, common_steps);
+      moved = record {
+        falls = grind (arith, common_steps, within);
+        rises = grind (arith, common_steps, within);
+        copied = grind (arith, common_steps, within);
+        kept = grind (arith, common_steps, within);
+      };
+      falls = grind (arith, common_steps, within);
+    }
 
 pub returns-in-Ok-clause-does : goal.returns-in-Ok-clause-does
 returns-in-Ok-clause-does g c = record {
@@ -26,14 +29,18 @@ returns-in-Ok-clause-does g c = record {
 }
 
 pub returns-in-Ok-clause-paid : goal.returns-in-Ok-clause-paid
-returns-in-Ok-clause-paid g c = record {
-  free = grind (arith, common_steps);
-  hidden = grind (arith, common_steps);
-  moved = record {
-    falls = grind (arith, common_steps);
-    rises = grind (arith, common_steps);
-    copied = grind (arith, common_steps);
-    kept = grind (arith, common_steps);
-  };
-  falls = grind (arith, common_steps);
-}
+returns-in-Ok-clause-paid g c =
+    let within = trades-within g.T.Item.is_counted g.T.Item.WEIGHT c.args.a.now.alone c.in-Some.from c.in-Some.to c.args.a.now.value c.read_all.new.h c.replace.new.h (grind (arith, common_steps)) c.replace.ensures.paid in
+    let few = copies-light g.T.Item.WEIGHT (length c.args.a.now.value) c.args.a.now.alone (grind (arith, common_steps)) in
+    let copied = rw c.in_ok-items.ensures.spent at within.copied in
+    record {
+      free = grind (arith, common_steps);
+      hidden = grind (arith, common_steps);
+      moved = record {
+        falls = grind (arith, common_steps, within);
+        rises = grind (arith, common_steps, within);
+        copied = omega (arith, copied, few);
+        kept = grind (arith, common_steps, within);
+      };
+      falls = grind (arith, common_steps, within);
+    }

@@ -61,15 +61,10 @@ returns-clause-same g c =
     let room = rw (← c.row.view_is) at c.requires.room in
     let added : c.len-added.result ≡ length c.settle_all.new.items.items = grind (arith, common_steps) in
     let row = replaced-row c.row.inside.buf c.replace_with.new.dest c.row.inside.front c.row.inside.len c.args.start c.args.count c.len-added.result c.settle_all.new.items.items c.row.invariant within (omega (arith, room, added, c.settle_all.ensures.count)) added (rw (c.replace_with.ensures, c.shift.ensures, c.end_places.ensures.places, ← added) refl) in
-    rw (row.1, map-append, map-append, c.settle_all.ensures.same, ← c.row.view_is, take-map, drop-map) refl
-
-pub returns-clause-count : goal.returns-clause-count
-returns-clause-count g c =
-    let within = rw (← c.row.view_is) at c.requires.within in
-    let room = rw (← c.row.view_is) at c.requires.room in
-    let added : c.len-added.result ≡ length c.settle_all.new.items.items = grind (arith, common_steps) in
-    let row = replaced-row c.row.inside.buf c.replace_with.new.dest c.row.inside.front c.row.inside.len c.args.start c.args.count c.len-added.result c.settle_all.new.items.items c.row.invariant within (omega (arith, room, added, c.settle_all.ensures.count)) added (rw (c.replace_with.ensures, c.shift.ensures, c.end_places.ensures.places, ← added) refl) in
-    rw (row.1, ← c.row.view_is) (omega (arith, length-splice (somes c.row.inside.buf) c.settle_all.new.items.items c.args.start c.args.count within, c.settle_all.ensures.count))
+    record {
+      shown = rw (row.1, map-append, map-append, c.settle_all.ensures.same, ← c.row.view_is, take-map, drop-map) refl;
+      count = rw (row.1, ← c.row.view_is) (omega (arith, length-splice (somes c.row.inside.buf) c.settle_all.new.items.items c.args.start c.args.count within, c.settle_all.ensures.count));
+    }
 
 pub returns-clause-settled : goal.returns-clause-settled
 returns-clause-settled g c =

@@ -2,6 +2,7 @@ use Rattle.std.proofs.Common.{refl, inl, ap, Err}
 use Rattle.cow_run.specs.Answer.{too_long}
 use Rattle.cow_run.specs.Lines.{fault_text}
 use Rattle.cow_run.proofs.Ran.{line_written}
+use Rattle.cow_run.proofs.Whole.{run_answers}
 use Rattle.cow_run.proofs.run.run.Goals as goal
 
 pub returns-in-Err-TooLong-clause-answer : goal.returns-in-Err-TooLong-clause-answer
@@ -15,3 +16,8 @@ returns-in-Err-TooLong-clause-answer g c =
       appended = line.1;
       says = (inl (refl, much.2), line.2, c.requires.fresh);
     }
+
+pub returns-in-Ok-clause-answer : goal.returns-in-Ok-clause-answer
+returns-in-Ok-clause-answer g c =
+    let whole = c.in-Ok.ensures.whole in
+    run_answers _ _ _ _ _ _ _ _ _ _ c.deref.ensures.value whole.consumed whole.at_end c.run_bytes.ensures.usage c.run_bytes.ensures.read_fault c.run_bytes.ensures.answer

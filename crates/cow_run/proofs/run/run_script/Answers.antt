@@ -9,13 +9,13 @@ use Rattle.cow_run.proofs.run.run_script.Goals as goal
 pub returns-in_err-run_statements-clause-err : goal.returns-in_err-run_statements-clause-err
 returns-in_err-run_statements-clause-err g c =
     let p = err_from_is_err_and c.from_residual.result c.from_residual.ensures.1 in
-    rw p.1 (front_before _ _ (text_of c.args.statements.now []) (census_if c.args.census c.run_statements.new.h.copied (bound c.args.statements.now [])) c.in_err-run_statements.ensures.err)
+    rw p.1 (front_before _ _ (text_of c.args.statements.now []) (census_if c.args.running.census c.run_statements.new.h.copied (bound c.args.statements.now [])) c.in_err-run_statements.ensures.err)
 
 pub returns-in_err-write_census-clause-err : goal.returns-in_err-write_census-clause-err
 returns-in_err-write_census-clause-err g c =
     let p = err_from_is_err_and c.from_residual-in_err-write_census.result c.from_residual-in_err-write_census.ensures.1 in
     let held = g.K.Sink.held in
-    let line = census_front _ _ c.args.census _ _ _ _ c.copied.ensures (c.allowed.ensures ∙ c.in_ok-run_statements.ensures.allowed) c.in_err-write_census.ensures.err in
+    let line = census_front _ _ c.args.running.census _ _ _ _ c.copied.ensures (c.allowed.ensures ∙ c.in_ok-run_statements.ensures.allowed) c.in_err-write_census.ensures.err in
     rw p.1 (front_behind (held c.args.sink.now) (held c.run_statements.new.sink) (held c.write_census.new.sink) (text_of c.args.statements.now []) _ c.in_ok-run_statements.ensures.ok line)
 
 pub returns-clause-ok : goal.returns-clause-ok
@@ -23,7 +23,7 @@ returns-clause-ok g c =
     let held = g.K.Sink.held in
     let copied = c.copied.ensures ∙ sym c.end.ensures.copied in
     let most = c.allowed.ensures ∙ c.in_ok-run_statements.ensures.allowed in
-    census_written (held c.args.sink.now) (held c.run_statements.new.sink) (held c.write_census.new.sink) c.args.statements.now c.args.census c.copied.result c.end.new.h.copied c.allowed.result copied most c.in_ok-run_statements.ensures.ok c.in_ok-write_census.ensures.ok
+    census_written (held c.args.sink.now) (held c.run_statements.new.sink) (held c.write_census.new.sink) c.args.statements.now c.args.running.census c.copied.result c.end.new.h.copied c.allowed.result copied most c.in_ok-run_statements.ensures.ok c.in_ok-write_census.ensures.ok
 
 pub returns-clause-least : goal.returns-clause-least
 returns-clause-least g c =

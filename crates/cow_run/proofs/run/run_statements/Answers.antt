@@ -2,9 +2,26 @@ use Rattle.std.proofs.Common.{◌+◌, arith, rules, drop, length, subst, []}
 use Rattle.std.proofs.lemmas.Result.{err_from_is_err_and}
 use Rattle.cow_model.specs.Run.{text_of}
 use Rattle.cow_eval.specs.Envs.{env_of}
-use Rattle.cow_run.proofs.Counts.{Counts, counts_more, counts_err, counts_end, nothing_left, can_more}
+use Rattle.cow_tasks.specs.Blocks.{count_in}
+use Rattle.cow_run.proofs.Counts.{Counts, counts_more, counts_err, counts_end, nothing_left, can_next, can_one, parts_one}
 use Rattle.cow_run.proofs.Ran.{Stands, stands_more, front_more, next_rest}
 use Rattle.cow_run.proofs.run.run_statements.Goals as goal
+
+pub run_and_write-requires-clause-ready : goal.run_and_write-requires-clause-ready
+run_and_write-requires-clause-ready g c = λ lifetimes outlives.
+    let loop = c.loop-statement in
+    let ss = c.args.statements.now in
+    let next = next_rest ss loop.statement-index c.statement-item.result (search rules) c.statement-item.is in
+    let counts = subst (λ rest. Counts g.V.Shown.counted ss rest loop.env loop.h) next loop.invariant.2 in
+    can_one c.statement-item.result (drop (loop.statement-index + 1) ss) loop.env loop.h counts.ready
+
+pub run_and_write-requires-clause-parts : goal.run_and_write-requires-clause-parts
+run_and_write-requires-clause-parts g c = λ lifetimes outlives.
+    let loop = c.loop-statement in
+    let ss = c.args.statements.now in
+    let next = next_rest ss loop.statement-index c.statement-item.result (search rules) c.statement-item.is in
+    let counts = subst (λ rest. Counts g.V.Shown.counted ss rest loop.env loop.h) next loop.invariant.2 in
+    parts_one c.statement-item.result (drop (loop.statement-index + 1) ss) loop.h counts.parts
 
 pub loop-statement-preserved : goal.loop-statement-preserved
 loop-statement-preserved g c =
@@ -17,7 +34,7 @@ loop-statement-preserved g c =
     let counts = subst (λ rest. Counts g.V.Shown.counted ss rest loop.env loop.h) next loop.invariant.2 in (
       omega (arith, loop.invariant.0, c.run_and_write.ensures.later),
       stands_more _ _ _ _ _ _ _ _ stands did.env did.ok,
-      counts_more g.V.Shown.counted ss (drop (loop.statement-index + 1) ss) c.statement-item.result loop.env c.run_and_write.new.env loop.h c.run_and_write.new.h counts did.env c.run_and_write.ensures.costs did.least (did.next (length (drop (loop.statement-index + 1) ss)) (can_more ss loop.statement-index loop.env loop.h c.loop-statement-test.true loop.invariant.2.ready)) did.bare,
+      counts_more g.V.Shown.counted ss (drop (loop.statement-index + 1) ss) c.statement-item.result loop.env c.run_and_write.new.env loop.h c.run_and_write.new.h counts did.env c.run_and_write.ensures.copied did.falls did.least (did.next (count_in (drop (loop.statement-index + 1) ss)) (can_next c.statement-item.result (drop (loop.statement-index + 1) ss) loop.env loop.h counts.ready)) did.bare,
     )
 
 pub returns-in_err-run_and_write-clause-err : goal.returns-in_err-run_and_write-clause-err
@@ -37,7 +54,7 @@ returns-in_err-run_and_write-clause-most g c =
     let next = next_rest ss loop.statement-index c.statement-item.result (search rules) c.statement-item.is in
     let stands = subst (λ rest. Stands (held c.args.sink.now) (held loop.sink) ss rest (env_of loop.env)) next loop.invariant.1 in
     let counts = subst (λ rest. Counts g.V.Shown.counted ss rest loop.env loop.h) next loop.invariant.2 in
-    counts_err g.V.Shown.counted ss (drop (loop.statement-index + 1) ss) c.statement-item.result loop.env c.run_and_write.new.env loop.h c.run_and_write.new.h counts stands.ends c.run_and_write.ensures.most c.run_and_write.ensures.costs
+    counts_err g.V.Shown.counted ss (drop (loop.statement-index + 1) ss) c.statement-item.result loop.env c.run_and_write.new.env loop.h c.run_and_write.new.h counts stands.ends c.run_and_write.ensures.most c.run_and_write.ensures.copied
 
 pub returns-clause-least : goal.returns-clause-least
 returns-clause-least g c =

@@ -13,7 +13,7 @@ pub returns-clause-items : goal.returns-clause-items
 returns-clause-items g c =
     rw (← c.self.view_is)
     (append-run-plain g.T.Item.plain c.prepare_run.new.cell.value.items c.put_behind.new.row.items c.self.inside.cell.value.items c.in-Ok.from c.self.inside.from c.self.inside.count c.settle.new.self c.args.x
-    (c.in-Ok.ensures.place.1) (rw c.only.ensures.value at c.put_behind.ensures.items) c.in-Ok.ensures.same c.settle.ensures.same)
+    (c.in-Ok.ensures.within) (rw c.only.ensures.value at c.put_behind.ensures.items) c.in-Ok.ensures.same c.settle.ensures.same)
 
 last-stays : (a b : Purse) (m n : ℕ) (c : Purse) → (b ≡ a) ⊎ (m ≡ n) → (m ≡ n → c ≡ b) → (b ≡ a) ⊎ (c ≡ b)
 last-stays a b m n c (inl e) f = inl e

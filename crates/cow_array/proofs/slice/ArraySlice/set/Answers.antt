@@ -1,4 +1,4 @@
-use Rattle.std.proofs.Common.{◌+◌, ◌-◌, ◌<◌, arith}
+use Rattle.std.proofs.Common.{◌+◌, ◌-◌, ◌<◌, ◌≤◌, length, arith}
 use Rattle.cow_row.proofs.Runs.{set-run-plain, get-same-plain, length-run-plain, units-set}
 use Rattle.cow_array.proofs.slice.ArraySlice.set.Goals as goal
 
@@ -14,7 +14,8 @@ returns-clause-units g c =
     let below = rw (← c.self.view_is) at c.requires.below in
     let long = length-run-plain g.T.Item.plain c.self.inside.cell.value.items c.self.inside.from c.self.inside.count c.self.invariant.1 in
     let within : c.args.i - c.self.inside.start < c.self.inside.count = omega (arith, above, below, long) in
-    let one = rw c.settle.ensures.same at (units-set g.T.Item.plain g.T.Item.is_counted c.prepare_run.new.cell.value.items at c.settle.new.self (omega (arith, c.in-Ok.ensures.place, within))) in
+    let stop : c.in-Ok.from + c.self.inside.count ≤ length c.prepare_run.new.cell.value.items = c.in-Ok.ensures.within in
+    let one = rw c.settle.ensures.same at (units-set g.T.Item.plain g.T.Item.is_counted c.prepare_run.new.cell.value.items at c.settle.new.self (omega (arith, stop, within))) in
     rw (c.replace.ensures.row, c.only.ensures.value, ← c.self.view_is) (omega (arith, one, c.in-Ok.ensures.units))
 
 pub returns-clause-old : goal.returns-clause-old

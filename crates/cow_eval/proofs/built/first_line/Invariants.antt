@@ -1,7 +1,0 @@
-use Rattle.std.proofs.Common.{◌≡◌, drop}
-use Rattle.cow_eval.specs.Statements.{unbuilt_line}
-use Rattle.cow_eval.proofs.built.first_line.Given as goal
-
--- the statements so far are built
-abbrev pub invariant-loop-statement : goal.invariant-loop-statement
-invariant-loop-statement l = unbuilt_line (drop l.statement-index l.statements) ≡ unbuilt_line l.statements

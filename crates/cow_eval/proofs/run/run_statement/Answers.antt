@@ -1,9 +1,0 @@
-use Rattle.cow_model.specs.declared.statement.Statement.{out-Statement}
-use Rattle.cow_eval.specs.Envs.{SeenEnv}
-use Rattle.cow_eval.proofs.Ready.{ready-next}
-use Rattle.cow_eval.proofs.run.run_statement.Goals as goal
-
-pub returns-clause-next : goal.returns-clause-next
-returns-clause-next g c = λ n ready.
-    let before : SeenEnv = record { names = c.env.inside.names.items; room = c.env.inside.room; allowed = c.env.inside.allowed } in
-    ready-next n before c.act.new.env c.args.h.now c.act.new.h (out-Statement c.args.statement.now) c.env.invariant (rw (← c.env.view_is) at ready) c.requires.statement.few c.act.ensures.step.costs.falls c.act.result (rw c.literals.ensures at c.act.ensures.step.env)

@@ -1,0 +1,14 @@
+pub mod Blocks
+pub mod CaptureLists
+pub mod Capturing
+pub mod Ending
+pub mod Forking
+pub mod Giving
+pub mod Growth
+pub mod Joining
+pub mod Lists
+pub mod Making
+pub mod Names
+pub mod ReadTasks
+pub mod TaskRuns
+pub mod Unbuilt
