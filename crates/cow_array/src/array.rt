@@ -5,7 +5,7 @@ ghost use Rattle.cow_row.specs.RowView.{IsSound};
 ghost use Rattle.cow_row.specs.Trades.{Trades};
 ghost use Rattle.cow_model.specs.Lists.{Pays};
 ghost use Rattle.cow_model.specs.Flat.{Becomes, Stays, HasRoom, need, copies, settled};
-ghost use Rattle.cow_array.specs.Words.{InPlace, HandsBack, Doubles, Returns, PaysWith};
+ghost use Rattle.cow_row.specs.Changes.{InPlace, HandsBack, Doubles, Returns, PaysWith};
 
 use crate::slice::ArraySlice;
 use cow_cell::{Counted, Holder, Stock};

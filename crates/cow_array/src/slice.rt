@@ -2,7 +2,8 @@ ghost use Rattle.std.specs.Prelude.{◌≡◌, ℕ, ◌+◌, ◌-◌, ◌*◌, �
 ghost use Rattle.cow_model.specs.Purse.{Moves, less, more, unit_if};
 ghost use Rattle.cow_model.specs.Flat.{need, copies, settled, HasRoom, Stays, Becomes};
 ghost use Rattle.cow_array.specs.Slice.{element, with_element};
-ghost use Rattle.cow_array.specs.Words.{InPlace, HandsBack, AddsUnit, PaysShown};
+ghost use Rattle.cow_array.specs.Words.{AddsUnit, PaysShown};
+ghost use Rattle.cow_row.specs.Changes.{InPlace, HandsBack};
 ghost use Rattle.std.specs.List.{push};
 
 use crate::array::Array;

@@ -13,6 +13,7 @@
 //! - `numbers`: i64 and `()` as items and keys.
 //! - `text`: `Text`, a counted text of at most 255 bytes.
 //! - `atom`: `Atom`, an integer or a text, and how it is read from a script's `Literal`.
+//! - `equivalent`: what a key can be looked for by: another key, or for an atom a script's `Literal`.
 //! - `hash`: the hashes of integers and texts.
 //!
 //! `tests` has an item and key of a user's own, two numbers and a text, and an item whose value counts its
@@ -20,11 +21,13 @@
 #![tactic(auto)]
 
 mod atom;
+mod equivalent;
 mod hash;
 mod item;
 mod numbers;
 mod text;
 
 pub use atom::Atom;
+pub use equivalent::Equivalent;
 pub use item::{Item, Key};
 pub use text::Text;

@@ -11,7 +11,7 @@
 //!   handle is known to be alone, so the collection writes by `only`, which looks at nothing. `replace_run` is
 //!   a whole change, since of a row that others hold it copies no item that it would end.
 //!
-//! The layer above names no buffer and no place: it changes a row by list calls, each of which is one
+//! The layer above names no buffer and no place, but for a table of hashes, which reads keys at their places (`buf`): it changes a row by list calls, each of which is one
 //! step or one move of memory, but for `reverse` and for `replace_run`, which takes one move and a step
 //! for each item that comes or goes. A run of items is read as one slice, copied by one loop that writes
 //! items and nothing else, with one count of its copies, and ended by one loop.

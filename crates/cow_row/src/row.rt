@@ -1,6 +1,6 @@
-ghost use Rattle.std.specs.Prelude.{◌≡◌, ◌+◌, ◌-◌, ◌*◌, ◌<◌, ◌≤◌, ◌^◌, [], ◌∷◌, ◌++◌, length, map, count_by, All, IsPermutation, slice_get, slice_set, take, drop, insert, remove, swap, reverse, IfOk, IfNone, IfSome, OnOk, OnErr, IsOk, IsTrue, ◌↔◌, Some, None, max};
+ghost use Rattle.std.specs.Prelude.{◌≡◌, ℕ, ◌+◌, ◌-◌, ◌*◌, ◌<◌, ◌≤◌, ◌^◌, [], ◌∷◌, ◌++◌, length, map, count_by, All, IsPermutation, slice_get, slice_set, take, drop, insert, remove, swap, reverse, IfOk, IfNone, IfSome, OnOk, OnErr, IsOk, IsTrue, ◌↔◌, Some, None, max};
 ghost use Rattle.std.specs.List.{splice};
-ghost use Rattle.cow_buf.specs.Places.{IsRun, IsClear, blanked};
+ghost use Rattle.cow_buf.specs.Places.{place, IsRun, IsClear, blanked};
 ghost use Rattle.cow_model.specs.Purse.{more, noted};
 ghost use Rattle.cow_row.specs.Places.{somes, IsPacked};
 ghost use Rattle.cow_row.specs.Words.{run_of, fronted, Gains, Spends, Splices, units};
@@ -107,6 +107,15 @@ impl<T: Drop> Row<T> {
         ensures { result.now ≡ run_of start count self.now.items }
     {
         self.buf.run(self.front + start, count)
+    }
+
+    /// The buffer, for a table that finds items by their places in it. Item `i` stands `i` places behind the
+    /// empty ones in front.
+    pub fn buf(&self) -> &Buf<T>
+        ensures { (i : ℕ) → i < length self.now.items
+            → place result.now (self.now.front + i) ≡ slice_get self.now.items i }
+    {
+        &self.buf
     }
 
     /// `x` stands last.

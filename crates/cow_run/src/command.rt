@@ -50,8 +50,10 @@ pub fn cowrun<R: Threads + Sync, Q: Stock + Send + Sync, S: Source, K: Sink, G: 
     // What was read and written, and the holder, are what the status says.
     ensures answer { Answers (S.left source.old) (S.left source.new) (K.held sink.old) (K.held sink.new)
         (Rose (K.faults sink.old) (K.faults sink.new)) (asks_census (spec.options (map (λ w. w.now) words.now))) h.new result }
-    ensures read_fault { result ≡ Status.ReadFault → Rose (S.faults source.old) (S.faults source.new) }
-    ensures write_fault { result ≡ Status.WriteFault → Rose (K.faults sink.old) (K.faults sink.new) }
+    ensures read_fault { result ≡ Status.ReadFault →
+        Rose (S.faults source.old) (S.faults source.new) }
+    ensures write_fault { result ≡ Status.WriteFault →
+        Rose (K.faults sink.old) (K.faults sink.new) }
 
     // Without faults a built script is run to its end, unless memory runs out.
     ensures complete { spec.options (map (λ w. w.now) words.now) ≢ None →

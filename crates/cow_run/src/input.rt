@@ -33,9 +33,12 @@ impl From<AllocError> for ReadStop {
 /// All the bytes of a source, up to the most of a script. Each turn takes at least one byte, and no more
 /// than 1,048,577 bytes are read in all.
 pub fn read_all<S: Source>(alloc: Global, source: &mut S) -> Result<Vec<u8>, ReadStop>
-    ensures whole { IfOk result (λ bytes. ReadsWhole (S.left source.old) (S.left source.new) bytes.items) }
-    ensures too_long { IsErrOf result ReadStop.TooLong → ReadsTooMuch (S.left source.old) (S.left source.new) }
-    ensures failed { IsErrOf result ReadStop.Failed → ReadsPart (S.left source.old) (S.left source.new) × Rose (S.faults source.old) (S.faults source.new) }
+    ensures whole { IfOk result
+        (λ bytes. ReadsWhole (S.left source.old) (S.left source.new) bytes.items) }
+    ensures too_long { IsErrOf result ReadStop.TooLong →
+        ReadsTooMuch (S.left source.old) (S.left source.new) }
+    ensures failed { IsErrOf result ReadStop.Failed →
+        ReadsPart (S.left source.old) (S.left source.new) × Rose (S.faults source.old) (S.faults source.new) }
     ensures stopped { OnErr result (ReadsSome (S.left source.old) (S.left source.new)) }
     ensures later { S.faults source.old ≤ S.faults source.new }
 {

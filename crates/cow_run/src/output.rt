@@ -30,7 +30,8 @@ pub fn write_all<K: Sink>(sink: &mut K, text: &[u8]) -> Result<(), Failed>
 
 /// Writes the usage line. A write that fails there is told by the sink's faults alone.
 pub fn write_usage<K: Sink>(sink: &mut K)
-    ensures line { WritesLine (K.held sink.old) (K.held sink.new) (Rose (K.faults sink.old) (K.faults sink.new)) usage_text }
+    ensures line { WritesLine (K.held sink.old) (K.held sink.new)
+        (Rose (K.faults sink.old) (K.faults sink.new)) usage_text }
     ensures later { K.faults sink.old ≤ K.faults sink.new }
 {
     let _ = write_all(sink, USAGE);
@@ -39,7 +40,8 @@ pub fn write_usage<K: Sink>(sink: &mut K)
 /// Writes the line of a statement that isn't built. A write that fails there is told by the sink's faults
 /// alone. Takes no memory.
 pub fn write_not_built<K: Sink>(sink: &mut K, line: u64)
-    ensures line { WritesLine (K.held sink.old) (K.held sink.new) (Rose (K.faults sink.old) (K.faults sink.new)) (not_built_text line) }
+    ensures line { WritesLine (K.held sink.old) (K.held sink.new)
+        (Rose (K.faults sink.old) (K.faults sink.new)) (not_built_text line) }
     ensures later { K.faults sink.old ≤ K.faults sink.new }
 {
     let _ = write_all(sink, not_built_line(line).as_slice());
@@ -48,7 +50,8 @@ pub fn write_not_built<K: Sink>(sink: &mut K, line: u64)
 /// Writes the line of a fault of the script. A write that fails there is told by the sink's faults alone.
 /// Takes no memory.
 pub fn write_fault<K: Sink>(sink: &mut K, fault: ParseFault)
-    ensures line { WritesLine (K.held sink.old) (K.held sink.new) (Rose (K.faults sink.old) (K.faults sink.new)) (fault_text fault) }
+    ensures line { WritesLine (K.held sink.old) (K.held sink.new)
+        (Rose (K.faults sink.old) (K.faults sink.new)) (fault_text fault) }
     ensures later { K.faults sink.old ≤ K.faults sink.new }
 {
     let _ = write_all(sink, fault_line(fault).as_slice());
@@ -61,8 +64,10 @@ pub fn write_census<K: Sink>(
     copied: u64,
     most: u64,
 ) -> Result<(), Failed>
-    ensures ok { OnOk result (Appends (K.held sink.old) (K.held sink.new) (census_if census copied most)) }
-    ensures err { OnErr result (WritesFront (K.held sink.old) (K.held sink.new) (census_if census copied most)) }
+    ensures ok { OnOk result (Appends (K.held sink.old) (K.held sink.new)
+        (census_if census copied most)) }
+    ensures err { OnErr result (WritesFront (K.held sink.old) (K.held sink.new)
+        (census_if census copied most)) }
     ensures failed { OnErr result (Rose (K.faults sink.old) (K.faults sink.new)) }
     ensures later { K.faults sink.old ≤ K.faults sink.new }
 {

@@ -98,10 +98,12 @@ fn run_and_write<R: Threads + Sync, V: Values<Q> + Send, Q: Stock + Send + Sync,
     ensures copied { RisesWithin env.old.allowed env.new.allowed h.old h.new }
     ensures falls { OnOk result
         (h.old.spare ≤ h.new.spare + count_of (out-Statement statement.now) * most_units) }
-    ensures least { OnOk result (RisesBy (least_layer (env_of env.old) (out-Statement statement.now)) h.old h.new) }
+    ensures least { OnOk result
+        (RisesBy (least_layer (env_of env.old) (out-Statement statement.now)) h.old h.new) }
     ensures bare { IsBare V.counted env.old.names → IsBareLayer V.counted (out-Statement statement.now) →
         OnOk result (Balances V.counted 0 env.old.names env.new.names h.old h.new) }
-    ensures fault { IsErrOf result RunStop.WriteFault → Rose (K.faults sink.old) (K.faults sink.new) }
+    ensures fault { IsErrOf result RunStop.WriteFault →
+        Rose (K.faults sink.old) (K.faults sink.new) }
     ensures later { K.faults sink.old ≤ K.faults sink.new }
 {
     text.clear();
@@ -127,14 +129,17 @@ fn run_statements<R: Threads + Sync, V: Values<Q> + Send, Q: Stock + Send + Sync
     requires start { env_of env.old ≡ start }
     requires empty { env.old.names ≡ [] }
     requires fresh { h.old ≡ whole }
-    ensures ok { OnOk result (Appends (K.held sink.old) (K.held sink.new) (text_of statements.now [])) }
-    ensures err { OnErr result (WritesFront (K.held sink.old) (K.held sink.new) (text_of statements.now [])) }
+    ensures ok { OnOk result (Appends (K.held sink.old) (K.held sink.new)
+        (text_of statements.now [])) }
+    ensures err { OnErr result (WritesFront (K.held sink.old) (K.held sink.new)
+        (text_of statements.now [])) }
     ensures allowed { OnOk result (env.new.allowed ≡ bound statements.now []) }
     ensures most { h.new.copied ≤ bound statements.now [] }
     ensures least { OnOk result (RisesBy (least statements.now []) h.old h.new) }
     ensures bare { IsBareBlock V.counted statements.now →
         OnOk result (IsBare V.counted env.new.names × (h.new.spare + length env.new.names ≡ stock_units)) }
-    ensures fault { IsErrOf result RunStop.WriteFault → Rose (K.faults sink.old) (K.faults sink.new) }
+    ensures fault { IsErrOf result RunStop.WriteFault →
+        Rose (K.faults sink.old) (K.faults sink.new) }
     ensures later { K.faults sink.old ≤ K.faults sink.new }
 {
     let mut text = Vec::new(alloc);
@@ -166,7 +171,8 @@ fn run_script<R: Threads + Sync, V: Values<Q> + Send, Q: Stock + Send + Sync, K:
     ensures most { h.new.copied ≤ bound statements.now [] }
     ensures least { OnOk result (least statements.now [] ≤ h.new.copied) }
     ensures bare { IsBareBlock V.counted statements.now → OnOk result (h.new.spare ≡ stock_units) }
-    ensures fault { IsErrOf result RunStop.WriteFault → Rose (K.faults sink.old) (K.faults sink.new) }
+    ensures fault { IsErrOf result RunStop.WriteFault →
+        Rose (K.faults sink.old) (K.faults sink.new) }
     ensures later { K.faults sink.old ≤ K.faults sink.new }
 {
     let mut env = Env::<V, Q>::new(alloc);
@@ -211,8 +217,10 @@ fn run_built<R: Threads + Sync, Q: Stock + Send + Sync, K: Sink, G: Gate>(
     requires read { IsRead script.now.statements }
     requires workers { 1 ≤ running.workers }
     requires fresh { h.old ≡ whole }
-    ensures answer { StatementsAnswered (K.held sink.old) (K.held sink.new) (Rose (K.faults sink.old) (K.faults sink.new)) running.census script.now.statements h.new result }
-    ensures write_fault { result ≡ Status.WriteFault → Rose (K.faults sink.old) (K.faults sink.new) }
+    ensures answer { StatementsAnswered (K.held sink.old) (K.held sink.new)
+        (Rose (K.faults sink.old) (K.faults sink.new)) running.census script.now.statements h.new result }
+    ensures write_fault { result ≡ Status.WriteFault →
+        Rose (K.faults sink.old) (K.faults sink.new) }
 {
     if let Some(line) = first_unbuilt(script) {
         write_not_built(sink, line);
@@ -243,8 +251,10 @@ fn run_bytes<R: Threads + Sync, Q: Stock + Send + Sync, K: Sink, G: Gate>(
     requires fresh { h.old ≡ whole }
     ensures usage { result ≢ Status.Usage }
     ensures read_fault { result ≢ Status.ReadFault }
-    ensures answer { BytesAnswered (K.held sink.old) (K.held sink.new) (Rose (K.faults sink.old) (K.faults sink.new)) running.census bytes.now h.new result }
-    ensures write_fault { result ≡ Status.WriteFault → Rose (K.faults sink.old) (K.faults sink.new) }
+    ensures answer { BytesAnswered (K.held sink.old) (K.held sink.new)
+        (Rose (K.faults sink.old) (K.faults sink.new)) running.census bytes.now h.new result }
+    ensures write_fault { result ≡ Status.WriteFault →
+        Rose (K.faults sink.old) (K.faults sink.new) }
 {
     match parse(alloc, bytes) {
         Ok(script) => run_built(rt, alloc, &script, running, sink, gate, h),
@@ -272,8 +282,10 @@ pub fn run<R: Threads + Sync, Q: Stock + Send + Sync, S: Source, K: Sink, G: Gat
     ensures usage { result ≢ Status.Usage }
     ensures answer { Answers (S.left source.old) (S.left source.new) (K.held sink.old) (K.held sink.new)
         (Rose (K.faults sink.old) (K.faults sink.new)) running.census h.new result }
-    ensures read_fault { result ≡ Status.ReadFault → Rose (S.faults source.old) (S.faults source.new) }
-    ensures write_fault { result ≡ Status.WriteFault → Rose (K.faults sink.old) (K.faults sink.new) }
+    ensures read_fault { result ≡ Status.ReadFault →
+        Rose (S.faults source.old) (S.faults source.new) }
+    ensures write_fault { result ≡ Status.WriteFault →
+        Rose (K.faults sink.old) (K.faults sink.new) }
 {
     match read_all(alloc, source) {
         Ok(bytes) => run_bytes(rt, alloc, &bytes, running, sink, gate, h),

@@ -33,14 +33,14 @@ pub atoms_start : (whole : List Text) → AtomsSoFar [] whole whole
 atoms_start whole = record { atoms = started (atoms_from 0 whole) }
 
 -- the next token, and those behind it
-at : (found : List Literal) (tokens others whole : List Text) → AtomsSoFar found tokens whole → tokens ≡ others → AtomsSoFar found others whole
-at found tokens others whole so_far is = record { atoms = so_far.atoms ∙ ap (λ ts. and_atoms found (atoms_from (length found) ts)) is }
+pub atoms_at : (found : List Literal) (tokens others whole : List Text) → AtomsSoFar found tokens whole → tokens ≡ others → AtomsSoFar found others whole
+atoms_at found tokens others whole so_far is = record { atoms = so_far.atoms ∙ ap (λ ts. and_atoms found (atoms_from (length found) ts)) is }
 
 -- what is read behind a token
 next : (found : List Literal) (n : ℕ) (tokens : List Text) (token : Text) (rest whole : List Text) (answer : Result Literal Flaw) → AtomsSoFar found tokens whole → tokens ≡ token ∷ rest → n ≡ length found → numbered_atom n token ≡ answer → atoms_from 0 whole ≡ and_atoms found (and_then answer (λ a. and_then (atoms_from (length found + 1) rest) (λ atoms. Ok (a ∷ atoms))))
 unfolding atoms_from
 next found n tokens token rest whole answer so_far cut count is =
-    (at found tokens (token ∷ rest) whole so_far cut).atoms
+    (atoms_at found tokens (token ∷ rest) whole so_far cut).atoms
     ∙ ap (λ r. and_atoms found (and_then r (λ a. and_then (atoms_from (length found + 1) rest) (λ atoms. Ok (a ∷ atoms))))) (ap (λ k. numbered_atom k token) (sym count) ∙ is)
 
 -- ---- by what `next_atom` answers

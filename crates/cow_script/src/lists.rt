@@ -27,17 +27,24 @@ fn one_more_atom(n: usize) -> Result<(), Flaw>
     Ok(())
 }
 
-/// Atoms are due up to the end of the line.
+/// Atoms are due up to the end of the line. Integers are asked for first.
 pub fn all_atoms(alloc: Global, tokens: &mut Tokens<'_>) -> Result<Items<Literal>, Stop>
     ensures { Reads (spec.all_atoms tokens.old) result tokens.new }
 {
     let mut atoms = Vec::new(alloc);
     let mut content = Vec::new(alloc);
-    while let Some(atom) = tokens.next_atom(alloc, &mut content)? {
+    loop {
+        if let Some(x) = tokens.next_integer() {
+            one_more_atom(atoms.len())?;
+            atoms.push(Literal::Int(x))?;
+            continue;
+        }
+        let Some(atom) = tokens.next_atom(alloc, &mut content)? else {
+            return Ok(Items::from_vec(atoms));
+        };
         one_more_atom(atoms.len())?;
         atoms.push(atom)?;
     }
-    Ok(Items::from_vec(atoms))
 }
 
 // A name of a group that moves, or doesn't.

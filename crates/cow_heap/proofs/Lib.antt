@@ -1,0 +1,5 @@
+pub mod Ascending
+pub mod Costs
+pub mod Extremes
+pub mod Sorted
+pub mod Steps

@@ -1,0 +1,4 @@
+pub mod Ascending
+pub mod Ascents
+pub mod Lookups
+pub mod Sets

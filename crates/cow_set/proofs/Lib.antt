@@ -1,0 +1,4 @@
+pub mod Keys
+pub mod Loops
+pub mod Operations
+pub mod Sorted

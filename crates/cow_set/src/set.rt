@@ -1,0 +1,258 @@
+ghost use Rattle.std.specs.Prelude.{◌≡◌, ℕ, ◌+◌, ◌-◌, ◌*◌, ◌<◌, ◌≤◌, ◌^◌, [], ◌∷◌, ◌++◌, length, map, count_by, filter, not, IfOk, IfErr, OnOk, OnErr, IsOk, All, option_map, IfSome, IfNone, IsTrue, ◌↔◌, true, false};
+ghost use Rattle.cow_members.specs.Ascents.{Ascends};
+ghost use Rattle.cow_model.specs.Flat.{Becomes, Stays, HasRoom, need, settled};
+ghost use Rattle.cow_model.specs.Lists.{Pays};
+ghost use Rattle.cow_model.specs.Members.{ascending, member, in_order, with_member, union, inter, minus, symdiff, subset, disjoint};
+ghost use Rattle.cow_model.specs.Purse.{Moves, less, more, unit_if};
+ghost use Rattle.cow_row.specs.Changes.{InPlace, HandsBack, Doubles, Returns, PaysWith};
+ghost use Rattle.cow_set.specs.Sets.{found, without, comes, goes, kept_by, ChangesTo};
+
+use crate::storage;
+use cow_cell::{Counted, Holder, Stock};
+use cow_item::{Equivalent, Item, Key};
+use cow_members::{Members, members};
+use cow_model::NoMemory;
+use std::alloc::Global;
+use std::marker::Model;
+
+/// A set of keys over counted storage, after Swift's `Set`. A copy shares the storage until one of the two is changed.
+///
+/// A call on one key takes as many steps as its table does: few, where hashes differ in their low bits. A change of a
+/// storage that others hold copies the keys first, in linear time; what is said below of costs holds where the storage
+/// is unshared. Only `new` and the calls that answer `NoMemory` take memory.
+#[derive(Drop)]
+pub struct Set<K: Key<Q>, Q: Stock> {
+    pub(crate) cell: Counted<Members<K>, Q>,
+    pub(crate) alloc: Global,
+}
+
+impl<K: Key<Q>, Q: Stock> Model for Set<K, Q> {
+    ghost use Rattle.std.specs.Prelude.{◌-◌, ◌<◌, ◌^◌, List, length};
+    ghost use Rattle.cow_members.specs.Members.{AreSound, set_of};
+    ghost use Rattle.cow_model.specs.Flat.{Flat};
+    ghost use Rattle.cow_model.specs.declared.plain.Literal.{Literal};
+
+    ghost Value = { Flat (List Literal) };
+
+    ghost view = { λ s. record { value = set_of K.plain s.cell.value; alone = s.cell.alone; room = s.cell.value.keys.capacity - length s.cell.value.keys.items } };
+
+    ghost invariant = { λ s. AreSound K.plain K.hash_of K.IsSettled s.cell.value × (length s.cell.value.keys.items < 2 ^ 31) };
+}
+
+impl<K: Key<Q>, Q: Stock> Set<K, Q> {
+    /// An empty set: Swift's `init()`. Takes memory for the storage and for 8 buckets. Answers `NoMemory` only for
+    /// want of it.
+    pub fn new(alloc: Global, h: &mut Holder<Q>) -> Result<Set<K, Q>, NoMemory>
+        requires { 1 ≤ h.old.spare }
+        ensures ok { IfOk result (λ s. Becomes [] s) }
+        ensures spent { OnOk result (h.new ≡ less 1 h.old) }
+        ensures refused { OnErr result (h.new ≡ h.old) }
+    {
+        let cell = storage::empty(alloc, h)?;
+        Ok(Set { cell, alloc })
+    }
+
+    /// How many members there are: Swift's `count`. One step.
+    #[tactic(auto, using(cow_members::proofs::Sets::set_steps))]
+    pub fn count(&self) -> usize
+        ensures value { result ≡ length self.now.value }
+        ensures small { result < 2 ^ 31 }
+    {
+        self.cell.get().len()
+    }
+
+    /// Whether there is no member: Swift's `isEmpty`. One step.
+    #[tactic(auto, using(cow_members::proofs::Sets::set_steps))]
+    pub fn is_empty(&self) -> bool
+        ensures { IsTrue result ↔ (self.now.value ≡ []) }
+    {
+        self.cell.get().is_empty()
+    }
+
+    /// The members for reading, each once, in no promised order. One step.
+    pub fn as_slice(&self) -> &[K]
+        ensures value { ascending (map K.plain result.now) ≡ self.now.value }
+        ensures distinct { Ascends self.now.value }
+        ensures settled { All K.IsSettled result.now }
+    {
+        self.cell.get().as_slice()
+    }
+
+    /// A second whole value, in one step: both show the members, and neither is alone.
+    pub fn copy(&mut self, h: &mut Holder<Q>) -> Set<K, Q>
+        requires { 1 ≤ h.old.spare }
+        ensures same { self.new ≡ settled self.old }
+        ensures copy { result ≡ settled self.old }
+        ensures spent { h.new ≡ less 1 h.old }
+    {
+        Set {
+            cell: self.cell.share(h),
+            alloc: self.alloc,
+        }
+    }
+
+    /// The same of a set that isn't alone. Any number of threads may call it on one set.
+    pub fn copy_settled(&self, h: &mut Holder<Q>) -> Set<K, Q>
+        requires settled { self.now.alone ≡ false }
+        requires spare { 1 ≤ h.old.spare }
+        ensures copy { result ≡ self.now }
+        ensures spent { h.new ≡ less 1 h.old }
+    {
+        Set {
+            cell: self.cell.share_settled(h),
+            alloc: self.alloc,
+        }
+    }
+
+    /// Not known to be alone any more. Nothing at run time.
+    pub fn settle(&mut self)
+        ensures { self.new ≡ settled self.old }
+    {
+        self.cell.settle();
+    }
+
+    /// The handle is given back; the last one of a storage ends its members, in one pass.
+    #[tactic(auto, using(cow_members::proofs::Sets::set_steps))]
+    pub fn end(self, h: &mut Holder<Q>)
+        ensures moved { Moves (count_by K.is_counted self.value) 0 (more 1 h.old) h.new }
+        ensures exact { Returns K.is_counted self (more 1 h.old) h.new }
+        ensures never_less { h.old.spare + 1 ≤ h.new.spare }
+    {
+        let Set { cell, alloc: _ } = self;
+        storage::end_cell(cell, h);
+    }
+
+    /// Whether `k`, or the key that it stands for, is a member: Swift's `contains`.
+    #[tactic(auto, using(cow_members::proofs::Sets::set_steps))]
+    pub fn contains<E: Equivalent<K, Q>>(&self, k: &E) -> bool
+        ensures { result ≡ member (E.sought k.now) self.now.value }
+    {
+        members::contains(self.cell.get(), k)
+    }
+
+    /// `k` is a member: Swift's `insert`. `true` where it wasn't one before. Else nothing changes, and `k` is ended.
+    #[tactic(auto, using(cow_members::proofs::Sets::set_steps))]
+    pub fn insert(&mut self, k: K, h: &mut Holder<Q>) -> Result<bool, (NoMemory, K)>
+        requires growth { length self.old.value + 1 < 2 ^ 31 }
+        requires spare { need (length self.old.value) ≤ h.old.spare }
+        ensures new { IfOk result (λ b. b ≡ not (member (K.plain k) self.old.value)) }
+        ensures ok { OnOk result
+            (ChangesTo (with_member in_order self.old.value (K.plain k)) self.old self.new) }
+        ensures there { member (K.plain k) self.old.value ≡ true → IsOk result
+            × (self.new ≡ self.old) × (h.new ≡ more (unit_if (K.is_counted (K.plain k))) h.old) }
+        ensures within { InPlace (comes (K.plain k) self.old.value) 0 result self.old self.new }
+        ensures doubled { Doubles (comes (K.plain k) self.old.value) result self.old self.new }
+        ensures refused { IfErr result (HandsBack k self.old self.new h.old h.new) }
+        ensures paid { Pays K.is_counted K.WEIGHT self.old h.old h.new }
+        ensures free { self.old.alone ≡ true → member (K.plain k) self.old.value ≡ false
+            → h.new ≡ h.old }
+    {
+        let hash = k.hash();
+        match members::place_of(self.cell.get(), hash, &k) {
+            Some(_) => {
+                k.end(h);
+                Ok(false)
+            }
+            None => {
+                self.put_new(hash, k, h)?;
+                Ok(true)
+            }
+        }
+    }
+
+    // `k`, which has this hash and isn't a member, is one.
+    #[tactic(auto, using(cow_members::proofs::Sets::set_steps))]
+    fn put_new(&mut self, hash: u32, k: K, h: &mut Holder<Q>) -> Result<(), (NoMemory, K)>
+        requires hash { hash ≡ K.hash_of (K.plain k) }
+        requires absent { member (K.plain k) self.old.value ≡ false }
+        requires growth { length self.old.value + 1 < 2 ^ 31 }
+        requires spare { need (length self.old.value) ≤ h.old.spare }
+        ensures ok { OnOk result (Becomes (in_order (K.plain k) self.old.value) self.new) }
+        ensures within { InPlace 1 0 result self.old self.new }
+        ensures doubled { Doubles 1 result self.old self.new }
+        ensures refused { IfErr result (HandsBack k self.old self.new h.old h.new) }
+        ensures paid { Pays K.is_counted K.WEIGHT self.old h.old h.new }
+        ensures free { self.old.alone ≡ true → h.new ≡ h.old }
+    {
+        if let Err(refused) = storage::prepare(&mut self.cell, self.alloc, 1, h) {
+            return Err((refused, k));
+        }
+        members::push(self.cell.only(), hash, k);
+        Ok(())
+    }
+
+    /// `k` is a member, in the place of one that is the same, which is handed out: Swift's `update(with:)`. `None`
+    /// exactly where there was none.
+    #[tactic(auto, using(cow_members::proofs::Sets::set_steps))]
+    pub fn update(&mut self, k: K, h: &mut Holder<Q>) -> Result<Option<K>, (NoMemory, K)>
+        requires growth { length self.old.value + 1 < 2 ^ 31 }
+        requires spare { need (length self.old.value) ≤ h.old.spare }
+        ensures ok { OnOk result (Becomes (with_member in_order self.old.value (K.plain k)) self.new) }
+        ensures old { IfOk result (λ o. option_map K.plain o ≡ found (K.plain k) self.old.value) }
+        ensures within { InPlace (comes (K.plain k) self.old.value) 0 result self.old self.new }
+        ensures doubled { Doubles (comes (K.plain k) self.old.value) result self.old self.new }
+        ensures refused { IfErr result (HandsBack k self.old self.new h.old h.new) }
+        ensures paid { Pays K.is_counted K.WEIGHT self.old h.old h.new }
+        ensures free { self.old.alone ≡ true → h.new ≡ h.old }
+    {
+        let hash = k.hash();
+        match members::place_of(self.cell.get(), hash, &k) {
+            Some(i) => {
+                if let Err(refused) = storage::prepare(&mut self.cell, self.alloc, 0, h) {
+                    return Err((refused, k));
+                }
+                Ok(Some(members::replace(self.cell.only(), i, k)))
+            }
+            None => {
+                self.put_new(hash, k, h)?;
+                Ok(None)
+            }
+        }
+    }
+
+    /// The member that is the same as `k`, taken out: Swift's `remove`. `None` exactly where there was none, and then
+    /// nothing changes.
+    #[tactic(auto, using(cow_members::proofs::Sets::set_steps))]
+    pub fn remove<E: Equivalent<K, Q>>(
+        &mut self,
+        k: &E,
+        h: &mut Holder<Q>,
+    ) -> Result<Option<K>, NoMemory>
+        requires spare { need (length self.old.value) ≤ h.old.spare }
+        ensures ok { OnOk result (ChangesTo (without (E.sought k.now) self.old.value) self.old self.new) }
+        ensures old { IfOk result (λ o. option_map K.plain o ≡ found (E.sought k.now) self.old.value) }
+        ensures absent { member (E.sought k.now) self.old.value ≡ false
+            → IsOk result × (self.new ≡ self.old) × (h.new ≡ h.old) }
+        ensures within { InPlace 0 (goes (E.sought k.now) self.old.value) result self.old self.new }
+        ensures refused { OnErr result (Stays self.old self.new × (h.new ≡ h.old)) }
+        ensures paid { Pays K.is_counted K.WEIGHT self.old h.old h.new }
+        ensures free { self.old.alone ≡ true → h.new ≡ h.old }
+    {
+        match members::place_of(self.cell.get(), k.sought_hash(), k) {
+            None => Ok(None),
+            Some(i) => {
+                storage::prepare(&mut self.cell, self.alloc, 0, h)?;
+                Ok(Some(members::take(self.cell.only(), i)))
+            }
+        }
+    }
+
+    /// References to the members in ascending order: Swift's `sorted()`. Takes memory for them, and n log n comparisons.
+    pub fn sorted(&self, alloc: Global) -> Result<Vec<&K>, NoMemory>
+        ensures { IfOk result (λ v. map (λ k. K.plain k.now) v.items ≡ self.now.value) }
+    {
+        let mut keys = references(alloc, self.cell.get().as_slice())?;
+        keys.sort_unstable_by(|a, b| a.order(b));
+        Ok(keys)
+    }
+}
+
+/// A reference to each item, in order.
+fn references<T>(alloc: Global, items: &[T]) -> Result<Vec<&T>, NoMemory>
+    ensures { IfOk result (λ v. map (λ x. x.now) v.items ≡ items.now) }
+{
+    match items.iter().collect(alloc) {
+        Ok(references) => Ok(references),
+        Err(_) => Err(NoMemory),
+    }
+}
