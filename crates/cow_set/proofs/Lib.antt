@@ -1,3 +1,4 @@
+pub mod Costs
 pub mod Keys
 pub mod Loops
 pub mod Operations

@@ -1,15 +1,15 @@
 -- The set of the members that each operation leaves, whatever their positions.
-use Rattle.std.proofs.Common.{◌≡◌, ℕ, ◌+◌, ◌≤◌, length, List, [], ◌∷◌, ◌++◌, Bool, true, false, not, ◌||◌, ◌&&◌, cond, filter, count_by, refl, sym, ap, ◌∙◌, subst, arith}
+use Rattle.std.proofs.Common.{◌≡◌, ◌+◌, ◌<◌, ◌≤◌, length, List, [], ◌∷◌, ◌++◌, Bool, true, false, not, ◌||◌, ◌&&◌, cond, filter, refl, sym, ap, ◌∙◌, subst, arith}
 use Rattle.std.specs.List.{list_all}
 use Rattle.std.proofs.lemmas.Bool.{true≢false}
 use Rattle.std.proofs.lemmas.List.{length_push}
 use Rattle.std.proofs.lemmas.List.Sums.{sum_by-cons}
-use Rattle.cow_model.specs.Members.{member, in_order, last, ascending, with_member, union, inter, minus, symdiff}
+use Rattle.cow_model.specs.Members.{member, in_order, last, ascending, union, minus, symdiff, subset, disjoint}
 use Rattle.cow_model.specs.Order.{same}
 use Rattle.cow_model.specs.declared.plain.Literal.{Literal}
 use Rattle.cow_members.specs.Ascents.{Ascends}
 use Rattle.cow_members.proofs.Ascending.{on_side}
-use Rattle.cow_members.proofs.Ascents.{same-members, same-is, itself, member-same, member-ascending, member-in_order, member-with, member-last, member-union, member-filter, ascends-in_order, ascends-union, ascends-filter, all-each, or-true, or-false}
+use Rattle.cow_members.proofs.Ascents.{same-members, member-same, member-ascending, member-in_order, member-last, member-union, member-filter, ascends-in_order, ascends-union, ascends-filter, all-each, each-all, all-alike, count_by-ascending, apart-alike, no-longer, as-long, length-ascending, or-true}
 use Rattle.cow_set.specs.Sets.{kept_by, stays, lacking, either, without}
 
 -- ---- union
@@ -36,6 +36,27 @@ none-lacking xs (y ∷ ys) n q m = on_side (member y xs)
     (λ f. member-same q y xs f ∙ e)
     (λ f. none-lacking xs ys (sym (lacking-there xs ys y e) ∙ n) q (sym (ap (λ t. t || member q ys) f) ∙ m)))
     (λ e. absurd (omega (arith, n, lacking-more xs ys y e)))
+
+and-both : (a b : Bool) → (a && b) ≡ true → (a ≡ true) × (b ≡ true)
+and-both true b e = (refl, e)
+and-both false b e = absurd (true≢false (sym e))
+
+all-there : (xs ys : List Literal) → list_all (λ a. member a xs) ys ≡ true → lacking xs ys ≡ 0
+all-there xs [] e = refl
+all-there xs (y ∷ ys) e =
+    let both = and-both (member y xs) (list_all (λ a. member a xs) ys) e in
+    lacking-there xs ys y both.0 ∙ all-there xs ys both.1
+
+pub none-missing : (xs ys : List Literal) → subset (ascending ys) (ascending xs) ≡ true → lacking xs ys ≡ 0
+none-missing xs ys e = all-there xs ys (all-alike (λ a. member a xs) (λ a. member a (ascending xs)) ys (ascending ys) (λ q. sym (member-ascending q ys)) (λ q. sym (member-ascending q xs)) ∙ e)
+
+-- how many are missing, in whatever order
+pub lacking-ascending : (xs ys : List Literal) → lacking (ascending xs) (ascending ys) ≡ lacking xs ys
+lacking-ascending xs ys = count_by-ascending (λ a. not (member a (ascending xs))) ys ∙ alike ys
+  where
+    alike : (l : List Literal) → lacking (ascending xs) l ≡ lacking xs l
+    alike [] = refl
+    alike (y ∷ l) = lacking-cons (ascending xs) l y ∙ ap (λ t. cond (not t) 1 0 + lacking (ascending xs) l) (member-ascending y xs) ∙ ap (λ n. cond (not (member y xs)) 1 0 + n) (alike l) ∙ sym (lacking-cons xs l y)
 
 or-in : (a b : Bool) → (b ≡ true → a ≡ true) → (a || b) ≡ a
 or-in true b f = refl
@@ -130,3 +151,28 @@ set-without a xs zs t e gone = same-members (ascending zs) (without a (ascending
     left q = on_side (same q a)
         (λ f. ap (λ t. (t || member q (ascending zs)) && not (t || false)) f ∙ sym (member-same q a (ascending zs) f ∙ member-ascending a zs ∙ gone))
         (λ f. ap (λ t. (t || member q (ascending zs)) && not (t || false)) f ∙ and-true (member q (ascending zs)))
+
+-- ---- questions about two sets
+pub subset-is : (xs ys : List Literal) → list_all (kept_by true ys) xs ≡ subset (ascending xs) (ascending ys)
+subset-is xs ys = all-alike (kept_by true ys) (λ a. member a (ascending ys)) xs (ascending xs) (λ q. sym (member-ascending q xs)) (λ q. sym (member-ascending q ys))
+
+pub subset-long : (xs ys : List Literal) → Ascends (ascending xs) → Ascends (ascending ys) → length ys < length xs → false ≡ subset (ascending xs) (ascending ys)
+subset-long xs ys s t l = on_side (subset (ascending xs) (ascending ys))
+    (λ e. let n = no-longer (ascending xs) (ascending ys) s t (all-each (λ a. member a (ascending ys)) (ascending xs) e) in
+    absurd (omega (arith, n, l, length-ascending xs, length-ascending ys)))
+    (λ e. sym e)
+
+pub kept-is : (keep : Bool) (xs ys : List Literal) → list_all (kept_by keep ys) xs ≡ list_all (kept_by keep (ascending ys)) (ascending xs)
+kept-is keep xs ys = all-alike (kept_by keep ys) (kept_by keep (ascending ys)) xs (ascending xs) (λ q. sym (member-ascending q xs)) (λ q. sym (kept-same keep ys q))
+
+pub disjoint-is : (xs ys : List Literal) → list_all (kept_by false ys) xs ≡ disjoint (ascending xs) (ascending ys)
+disjoint-is xs ys = all-alike (kept_by false ys) (λ a. not (member a (ascending ys))) xs (ascending xs) (λ q. sym (member-ascending q xs)) (λ q. ap not (sym (member-ascending q ys)))
+
+pub disjoint-turned : (xs ys : List Literal) → list_all (kept_by false xs) ys ≡ disjoint (ascending xs) (ascending ys)
+disjoint-turned xs ys = apart-alike ys xs ∙ disjoint-is xs ys
+
+pub equal-by : (xs ys : List Literal) → Ascends (ascending xs) → Ascends (ascending ys) → length xs ≡ length ys → list_all (kept_by true ys) xs ≡ true → ascending xs ≡ ascending ys
+equal-by xs ys s t l all = as-long (ascending xs) (ascending ys) s t (all-each (λ a. member a (ascending ys)) (ascending xs) (sym (subset-is xs ys) ∙ all)) (omega (arith, l, length-ascending xs, length-ascending ys))
+
+pub equal-back : (xs ys : List Literal) → ascending xs ≡ ascending ys → list_all (kept_by true ys) xs ≡ true
+equal-back xs ys e = subset-is xs ys ∙ each-all (λ a. member a (ascending ys)) (ascending xs) (λ q m. ap (member q) (sym e) ∙ m)

@@ -1,10 +1,10 @@
 -- The words in which contracts speak of sets. A set is the ascending list of its members.
-use Rattle.std.specs.Prelude.{◌≡◌, ℕ, ◌+◌, ◌*◌, ◌≤◌, ◌⊎◌, Bool, true, false, not, List, [], ◌∷◌, map, count_by, length, Option, Some, None, if◌then◌else◌}
+use Rattle.std.specs.Prelude.{◌≡◌, ℕ, ◌⊎◌, Bool, true, false, not, List, [], ◌∷◌, map, count_by, Option, Some, None, Result, IsOk, if◌then◌else◌}
 use Rattle.cow_cell.specs.declared.counted.Counted.{Counted}
 use Rattle.cow_members.specs.Members.{MembersView}
 use Rattle.cow_model.specs.Flat.{Flat, copies}
 use Rattle.cow_model.specs.Members.{member, minus}
-use Rattle.cow_model.specs.Purse.{Purse, Moves, more, unit_if}
+use Rattle.cow_model.specs.Purse.{Purse, Moves, more}
 use Rattle.cow_model.specs.declared.plain.Literal.{Literal}
 
 -- the member that is a, if there is one
@@ -45,6 +45,10 @@ either false b = b
 pub record ChangesTo {V : Type 0} (v : V) (before after : Flat V) : Type 0 where
   pub value : after.value ≡ v
   pub handle : (after ≡ before) ⊎ (after.alone ≡ true)
+
+-- nothing was to change: the answer is Ok, and the handle and the holder are as they were
+abbrev pub Untouched : {V A E : Type 0} → Result A E → (before after : Flat V) → (h h' : Purse) → Type 0
+Untouched result before after h h' = IsOk result × (after ≡ before) × (h' ≡ h)
 
 module _ {K Q : Type 0} (plain : K → Literal) (is_counted : Literal → Bool) where
   -- the units of the keys that a handle shows

@@ -7,14 +7,16 @@
 //! (`docs/CONTRACTS.md`). A call that finds nothing to change leaves the handle as it was: it takes no memory, and a
 //! set that isn't alone still shares its storage. A change takes the room of row and table before it moves a key, so
 //! an answer `NoMemory` leaves every value as it was and hands back what was given. The members are read by `contains`,
-//! or all at once, in no promised order, by `as_slice`.
+//! in key order by `sorted`, or all at once, in no promised order, by `as_slice`.
 //!
-//! The invariant is that of its members: they are settled, distinct, and indexed by the table.
+//! The invariant is that of its members: they are settled, distinct, and indexed by the table. `set` has the type and its
+//! calls, `algebra` what two sets do to each other, `storage` what the changes share.
 //!
-//! `new` may always answer want of memory, so a body that only does so meets the contract. A change of a
-//! storage that isn't known to be unshared may answer it too. The tests show that such calls succeed.
+//! `new` and `sorted` may always answer want of memory, so a body that only does so meets the contract. A change of a
+//! storage that isn't known to be unshared may answer it too. No test shows yet that such calls succeed.
 #![tactic(auto)]
 
+mod algebra;
 mod set;
 mod storage;
 

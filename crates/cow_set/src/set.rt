@@ -1,13 +1,14 @@
 ghost use Rattle.std.specs.Prelude.{◌≡◌, ℕ, ◌+◌, ◌-◌, ◌*◌, ◌<◌, ◌≤◌, ◌^◌, [], ◌∷◌, ◌++◌, length, map, count_by, filter, not, IfOk, IfErr, OnOk, OnErr, IsOk, All, option_map, IfSome, IfNone, IsTrue, ◌↔◌, true, false};
+ghost use Rattle.std.specs.List.{list_all};
 ghost use Rattle.cow_members.specs.Ascents.{Ascends};
 ghost use Rattle.cow_model.specs.Flat.{Becomes, Stays, HasRoom, need, settled};
 ghost use Rattle.cow_model.specs.Lists.{Pays};
 ghost use Rattle.cow_model.specs.Members.{ascending, member, in_order, with_member, union, inter, minus, symdiff, subset, disjoint};
 ghost use Rattle.cow_model.specs.Purse.{Moves, less, more, unit_if};
 ghost use Rattle.cow_row.specs.Changes.{InPlace, HandsBack, Doubles, Returns, PaysWith};
-ghost use Rattle.cow_set.specs.Sets.{found, without, comes, goes, kept_by, ChangesTo};
+ghost use Rattle.cow_set.specs.Sets.{found, without, comes, goes, kept_by, lacking, ChangesTo, Untouched};
 
-use crate::storage;
+use crate::{algebra, storage};
 use cow_cell::{Counted, Holder, Stock};
 use cow_item::{Equivalent, Item, Key};
 use cow_members::{Members, members};
@@ -235,6 +236,141 @@ impl<K: Key<Q>, Q: Stock> Set<K, Q> {
                 Ok(Some(members::take(self.cell.only(), i)))
             }
         }
+    }
+
+    /// The members of either: Swift's `formUnion`. One or two look-ups a member of `other`.
+    #[tactic(auto, using(cow_members::proofs::Sets::set_steps))]
+    pub fn union(&mut self, other: &Set<K, Q>, h: &mut Holder<Q>) -> Result<(), NoMemory>
+        requires growth { length self.old.value + length other.now.value < 2 ^ 31 }
+        requires spare { need (length self.old.value + length other.now.value) ≤ h.old.spare }
+        ensures ok { OnOk result
+            (ChangesTo (union in_order self.old.value other.now.value) self.old self.new) }
+        ensures there { subset other.now.value self.old.value ≡ true
+            → Untouched result self.old self.new h.old h.new }
+        ensures within { HasRoom (lacking self.old.value other.now.value) self.old → IsOk result }
+        ensures refused { OnErr result (Stays self.old self.new × (h.new ≡ h.old)) }
+        ensures paid { PaysWith K.is_counted K.WEIGHT self.old other.now.value h.old h.new }
+    {
+        let others = other.cell.get();
+        let extra = algebra::missing(self.cell.get(), others);
+        if extra == 0 {
+            return Ok(());
+        }
+        storage::prepare(&mut self.cell, self.alloc, extra, h)?;
+        algebra::add_missing(self.cell.only(), others, h);
+        Ok(())
+    }
+
+    /// The members of both: Swift's `formIntersection`. One or two look-ups a member.
+    #[tactic(auto, using(cow_members::proofs::Sets::set_steps))]
+    pub fn intersection(&mut self, other: &Set<K, Q>, h: &mut Holder<Q>) -> Result<(), NoMemory>
+        requires spare { need (length self.old.value + length other.now.value) ≤ h.old.spare }
+        ensures ok { OnOk result (ChangesTo (inter self.old.value other.now.value) self.old self.new) }
+        ensures there { subset self.old.value other.now.value ≡ true
+            → Untouched result self.old self.new h.old h.new }
+        ensures within { self.old.alone ≡ true → IsOk result }
+        ensures refused { OnErr result (Stays self.old self.new × (h.new ≡ h.old)) }
+        ensures paid { Pays K.is_counted K.WEIGHT self.old h.old h.new }
+    {
+        self.retain(other, true, h)
+    }
+
+    /// The members that `other` hasn't: Swift's `subtract`. One or two look-ups a member.
+    #[tactic(auto, using(cow_members::proofs::Sets::set_steps))]
+    pub fn subtracting(&mut self, other: &Set<K, Q>, h: &mut Holder<Q>) -> Result<(), NoMemory>
+        requires spare { need (length self.old.value + length other.now.value) ≤ h.old.spare }
+        ensures ok { OnOk result (ChangesTo (minus self.old.value other.now.value) self.old self.new) }
+        ensures absent { disjoint self.old.value other.now.value ≡ true
+            → Untouched result self.old self.new h.old h.new }
+        ensures within { self.old.alone ≡ true → IsOk result }
+        ensures refused { OnErr result (Stays self.old self.new × (h.new ≡ h.old)) }
+        ensures paid { Pays K.is_counted K.WEIGHT self.old h.old h.new }
+    {
+        self.retain(other, false, h)
+    }
+
+    // The members that `other` has, where `keep` is true; those that it hasn't, where it is false.
+    #[tactic(auto, using(cow_members::proofs::Sets::set_steps))]
+    fn retain(&mut self, other: &Set<K, Q>, keep: bool, h: &mut Holder<Q>) -> Result<(), NoMemory>
+        requires spare { need (length self.old.value + length other.now.value) ≤ h.old.spare }
+        ensures ok { OnOk result
+            (ChangesTo (filter (kept_by keep other.now.value) self.old.value) self.old self.new) }
+        ensures there { list_all (kept_by keep other.now.value) self.old.value ≡ true
+            → Untouched result self.old self.new h.old h.new }
+        ensures within { self.old.alone ≡ true → IsOk result }
+        ensures refused { OnErr result (Stays self.old self.new × (h.new ≡ h.old)) }
+        ensures paid { Pays K.is_counted K.WEIGHT self.old h.old h.new }
+    {
+        let others = other.cell.get();
+        if algebra::all_stay(self.cell.get(), others, keep) {
+            return Ok(());
+        }
+        storage::prepare(&mut self.cell, self.alloc, 0, h)?;
+        algebra::retain(self.cell.only(), others, keep, h);
+        Ok(())
+    }
+
+    /// The members of one alone: Swift's `formSymmetricDifference`. Two look-ups a member of `other`.
+    #[tactic(auto, using(cow_members::proofs::Sets::set_steps))]
+    pub fn symmetric_difference(
+        &mut self,
+        other: &Set<K, Q>,
+        h: &mut Holder<Q>,
+    ) -> Result<(), NoMemory>
+        requires growth { length self.old.value + length other.now.value < 2 ^ 31 }
+        requires spare { need (length self.old.value + length other.now.value) ≤ h.old.spare }
+        ensures ok { OnOk result
+            (ChangesTo (symdiff in_order self.old.value other.now.value) self.old self.new) }
+        ensures absent { other.now.value ≡ [] → Untouched result self.old self.new h.old h.new }
+        ensures within { HasRoom (lacking self.old.value other.now.value) self.old → IsOk result }
+        ensures refused { OnErr result (Stays self.old self.new × (h.new ≡ h.old)) }
+        ensures paid { PaysWith K.is_counted K.WEIGHT self.old other.now.value h.old h.new }
+    {
+        let members = self.cell.get();
+        let others = other.cell.get();
+        if others.is_empty() {
+            return Ok(());
+        }
+        let extra = algebra::missing(members, others);
+        storage::prepare(&mut self.cell, self.alloc, extra, h)?;
+        algebra::toggle_all(self.cell.only(), others, h);
+        Ok(())
+    }
+
+    /// Whether each member is one of `other`: Swift's `isSubset(of:)`. At most one look-up a member, and none where
+    /// `other` has fewer.
+    #[tactic(auto, using(cow_members::proofs::Sets::set_steps))]
+    pub fn is_subset(&self, other: &Set<K, Q>) -> bool
+        ensures { result ≡ subset self.now.value other.now.value }
+    {
+        let members = self.cell.get();
+        let others = other.cell.get();
+        members.len() <= others.len() && algebra::all_stay(members, others, true)
+    }
+
+    /// Whether no member is one of `other`: Swift's `isDisjoint(with:)`. At most one look-up a member of the smaller.
+    #[tactic(auto, using(cow_members::proofs::Sets::set_steps))]
+    pub fn is_disjoint(&self, other: &Set<K, Q>) -> bool
+        ensures { result ≡ disjoint self.now.value other.now.value }
+    {
+        let members = self.cell.get();
+        let others = other.cell.get();
+        if members.len() <= others.len() {
+            algebra::all_stay(members, others, false)
+        } else {
+            algebra::all_stay(others, members, false)
+        }
+    }
+
+    /// Whether the two have the same members: Swift's `==`. At most one look-up a member, and none where their counts
+    /// differ.
+    #[tactic(auto, using(cow_members::proofs::Sets::set_steps))]
+    pub fn equals(&self, other: &Set<K, Q>) -> bool
+        ensures { IsTrue result ↔ (self.now.value ≡ other.now.value) }
+    {
+        let members = self.cell.get();
+        let others = other.cell.get();
+        members.len() == others.len() && algebra::all_stay(members, others, true)
     }
 
     /// References to the members in ascending order: Swift's `sorted()`. Takes memory for them, and n log n comparisons.

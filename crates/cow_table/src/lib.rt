@@ -13,7 +13,8 @@
 //! this by moving later pairs of the run back into the hole.
 //!
 //! `new`, `twin` and a `reserve` without room may always answer want of memory, so a body that only does so meets
-//! the contract. The tests show that they succeed.
+//! the contract. No test shows yet that they
+//! succeed.
 #![tactic(auto)]
 
 mod ring;

@@ -1,4 +1,4 @@
-use Rattle.std.proofs.Common.{◌≡◌, ◌+◌, ◌≤◌, List, count_by, map, sym, ap, ◌∙◌, arith}
+use Rattle.std.proofs.Common.{List, count_by, map, sym, ap, ◌∙◌, arith}
 use Rattle.cow_members.proofs.Ascents.{count_by-ascending}
 use Rattle.cow_members.specs.Members.{MembersView}
 use Rattle.cow_model.specs.Flat.{Flat}

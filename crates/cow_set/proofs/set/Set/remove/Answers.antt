@@ -2,7 +2,6 @@ use Rattle.std.proofs.Common.{◌≡◌, List, ◌∷◌, map, slice_get, Some, 
 use Rattle.std.proofs.lemmas.Grind.{common_steps}
 use Rattle.cow_members.proofs.Ascents.{member-ascending}
 use Rattle.cow_members.proofs.Sets.{has-alike}
-use Rattle.cow_members.specs.Ascents.{Ascends}
 use Rattle.cow_members.specs.Members.{MembersView, HasAt}
 use Rattle.cow_model.specs.Flat.{Flat}
 use Rattle.cow_model.specs.Members.{ascending, member}
