@@ -34,10 +34,15 @@ fn numbers(alloc: Global, first: u64, count: usize) -> Result<Vec<Number>, Alloc
 
 #[test]
 fn three_jobs_answer_in_order(rt: HostRuntime) -> Result<(), Fail> {
-    let jobs = numbers(rt.alloc(), 7, 3)?;
-    assert!(rt; jobs.len() <= 65536);
-    let outs = run_all(&rt, rt.alloc(), jobs, 2, &OpenGate).ok();
-    assert!(rt; outs.is_some_and(|outs| outs.as_slice() == [7, 8, 9].as_slice()));
+    for workers in [1u32, 2, 8, 64] {
+        let jobs = numbers(rt.alloc(), 7, 3)?;
+        assert!(rt; jobs.len() <= 65536);
+        let outs = run_all(&rt, rt.alloc(), jobs, workers, &OpenGate).ok();
+        assert!(rt;
+            outs.is_some_and(|outs| outs.as_slice() == [7, 8, 9].as_slice()),
+            "at {workers} workers"
+        );
+    }
     Ok(())
 }
 
