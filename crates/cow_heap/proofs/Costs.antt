@@ -3,7 +3,7 @@ use Rattle.std.proofs.Common.{◌≡◌, ℕ, ◌*◌, ◌↔◌, List, [], ◌�
 use Rattle.std.proofs.lemmas.List.{length-map}
 use Rattle.cow_cell.specs.declared.counted.Counted.{Counted}
 use Rattle.cow_heap.specs.Heaps.{ascent, seen}
-use Rattle.cow_heap.proofs.Ascending.{length_ascending, count_ascending}
+use Rattle.cow_model.proofs.Ascending.{length_ascending, count_ascending}
 use Rattle.cow_model.specs.Lists.{Pays}
 use Rattle.cow_model.specs.Purse.{Purse}
 use Rattle.cow_model.specs.declared.plain.Literal.{Literal}

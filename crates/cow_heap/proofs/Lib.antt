@@ -1,4 +1,3 @@
-pub mod Ascending
 pub mod Costs
 pub mod Extremes
 pub mod Sorted

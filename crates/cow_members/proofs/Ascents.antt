@@ -12,7 +12,7 @@ use Rattle.cow_model.specs.Members.{member, in_order, last, ascending, with_memb
 use Rattle.cow_model.specs.Order.{same, below, literal_cmp}
 use Rattle.cow_model.specs.declared.plain.Literal.{Literal}
 use Rattle.cow_members.specs.Ascents.{IsBelow, Ascends}
-use Rattle.cow_members.proofs.Ascending.{on_side, behind, ahead, rank, tied, ascending_cons}
+use Rattle.cow_model.proofs.Ascending.{on_side, behind, ahead, rank, tied, ascending_cons}
 
 less-by : (o : Ordering) → is_lt o ≡ true → o ≡ Less
 less-by Less e = refl

@@ -1,4 +1,3 @@
-pub mod Ascending
 pub mod Ascents
 pub mod Lookups
 pub mod Sets

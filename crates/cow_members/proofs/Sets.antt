@@ -13,7 +13,7 @@ use Rattle.cow_model.specs.declared.plain.Literal.{Literal}
 use Rattle.cow_table.specs.Pairs.{TableView, hash_at, Gains, Keeps}
 use Rattle.cow_members.specs.Ascents.{Ascends}
 use Rattle.cow_members.specs.Members.{MembersView, IsIndexed, AreSound, listed, set_of}
-use Rattle.cow_members.proofs.Ascending.{ascending_cons, ascending_permutes}
+use Rattle.cow_model.proofs.Ascending.{ascending_cons, ascending_permutes}
 use Rattle.cow_members.proofs.Ascents.{same-is, itself, differs, member-ascending, length-ascending, count_by-ascending, ascends-in_order, ascends-out, or-true}
 use Rattle.cow_members.proofs.Lookups.{looks-pushed, looks-alike}
 

@@ -12,7 +12,7 @@ use Rattle.cow_model.specs.Order.{same}
 use Rattle.cow_model.specs.Purse.{Purse, Moves, unit_if}
 use Rattle.cow_model.specs.declared.plain.Literal.{Literal}
 use Rattle.cow_members.specs.Ascents.{Ascends}
-use Rattle.cow_members.proofs.Ascending.{on_side, ascending_cons, ascending_permutes}
+use Rattle.cow_model.proofs.Ascending.{on_side, ascending_cons, ascending_permutes}
 use Rattle.cow_members.proofs.Ascents.{same-is, member-same, member-ascending, member-last, ascends-out}
 use Rattle.cow_members.proofs.Sets.{set-out}
 use Rattle.cow_row.proofs.Runs.{units-run}

@@ -8,7 +8,7 @@ use Rattle.cow_model.specs.Members.{member, in_order, last, ascending, union, mi
 use Rattle.cow_model.specs.Order.{same}
 use Rattle.cow_model.specs.declared.plain.Literal.{Literal}
 use Rattle.cow_members.specs.Ascents.{Ascends}
-use Rattle.cow_members.proofs.Ascending.{on_side}
+use Rattle.cow_model.proofs.Ascending.{on_side}
 use Rattle.cow_members.proofs.Ascents.{same-members, member-same, member-ascending, member-in_order, member-last, member-union, member-filter, ascends-in_order, ascends-union, ascends-filter, all-each, each-all, all-alike, count_by-ascending, apart-alike, no-longer, as-long, length-ascending, or-true}
 use Rattle.cow_set.specs.Sets.{kept_by, stays, lacking, either, without}
 

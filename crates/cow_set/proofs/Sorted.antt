@@ -7,7 +7,7 @@ use Rattle.cow_model.proofs.LiteralOrder.{literal_cmp_total}
 use Rattle.cow_model.specs.Members.{ascending, in_order}
 use Rattle.cow_model.specs.Order.{below}
 use Rattle.cow_model.specs.declared.plain.Literal.{Literal}
-use Rattle.cow_members.proofs.Ascending.{ahead, ascending_cons, ascending_permutes}
+use Rattle.cow_model.proofs.Ascending.{ahead, ascending_cons, ascending_permutes}
 
 module _ {T : Type 0} (plain : T → Literal) where
   abbrev pub before : T → T → Bool

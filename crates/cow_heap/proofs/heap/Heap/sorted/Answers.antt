@@ -1,6 +1,6 @@
 use Rattle.std.proofs.Common.{◌≡◌, ◌∙◌, ap, map, rules}
 use Rattle.std.proofs.lemmas.List.Sorted.{answers_always}
-use Rattle.cow_heap.proofs.Ascending.{by_f}
+use Rattle.cow_model.proofs.Ascending.{by_f}
 use Rattle.cow_heap.proofs.Sorted.{shown, shown_ranks, shown_ascends, shown_settled}
 use Rattle.cow_heap.proofs.heap.Heap.sorted.Goals as goal
 

@@ -1,0 +1,14 @@
+pub mod Adds
+pub mod Appending
+pub mod Building
+pub mod Changes
+pub mod Children
+pub mod Copies
+pub mod NodeCosts
+pub mod Outcomes
+pub mod Placing
+pub mod RowSlots
+pub mod Scan
+pub mod Singles
+pub mod Spendings
+pub mod Tests

@@ -1,0 +1,152 @@
+// The levels, put on one another. A function that names a stack of levels costs the check the more, the more levels
+// it names; so each here names one level over a level that it doesn't know.
+ghost use Rattle.std.specs.Prelude.{◌≡◌, ℕ};
+
+use crate::branch::Branch;
+use crate::collide::Collide;
+use crate::level::Level;
+use cow_cell::Stock;
+use cow_item::{Item, Key};
+
+/// What is done with tries whose root is of any level type. `over_levels` runs it with seven branches over a collision
+/// node; no trie comes in or out, so it makes its own.
+pub trait Task<K: Key<Q>, V: Item<Q>, Q: Stock>: Sized + Drop {
+    type Out;
+
+    /// What it asks.
+    ghost Takes: { Self → Type 0 };
+
+    /// What it answers.
+    ghost Gives: { Self → Self.Out → Type 0 };
+
+    fn run<C: Level<K, V, Q> + Send + Sync>(self) -> Self::Out
+        requires root { C.LEVEL ≡ 0 }
+        requires stacked { C.Stacked }
+        requires takes { Takes self }
+        ensures { Gives self result };
+}
+
+/// Runs a task over tries of seven levels of branches.
+pub fn over_levels<
+    K: Key<Q> + Send + Sync,
+    V: Item<Q> + Send + Sync,
+    Q: Stock + Send + Sync,
+    T: Task<K, V, Q>,
+>(task: T) -> T::Out
+    requires takes { T.Takes task }
+    ensures { T.Gives task result }
+{
+    over_6::<K, V, Q, Collide<K, V>, T>(task)
+}
+
+/// With level 6 over a level below it.
+fn over_6<
+    K: Key<Q> + Send + Sync,
+    V: Item<Q> + Send + Sync,
+    Q: Stock + Send + Sync,
+    C: Level<K, V, Q> + Send + Sync,
+    T: Task<K, V, Q>,
+>(task: T) -> T::Out
+    requires above { C.LEVEL ≡ 7 }
+    requires stacked { C.Stacked }
+    requires takes { T.Takes task }
+    ensures { T.Gives task result }
+{
+    over_5::<K, V, Q, Branch<K, V, C, Q, 6>, T>(task)
+}
+
+/// With level 5 over a level below it.
+fn over_5<
+    K: Key<Q> + Send + Sync,
+    V: Item<Q> + Send + Sync,
+    Q: Stock + Send + Sync,
+    C: Level<K, V, Q> + Send + Sync,
+    T: Task<K, V, Q>,
+>(task: T) -> T::Out
+    requires above { C.LEVEL ≡ 6 }
+    requires stacked { C.Stacked }
+    requires takes { T.Takes task }
+    ensures { T.Gives task result }
+{
+    over_4::<K, V, Q, Branch<K, V, C, Q, 5>, T>(task)
+}
+
+/// With level 4 over a level below it.
+fn over_4<
+    K: Key<Q> + Send + Sync,
+    V: Item<Q> + Send + Sync,
+    Q: Stock + Send + Sync,
+    C: Level<K, V, Q> + Send + Sync,
+    T: Task<K, V, Q>,
+>(task: T) -> T::Out
+    requires above { C.LEVEL ≡ 5 }
+    requires stacked { C.Stacked }
+    requires takes { T.Takes task }
+    ensures { T.Gives task result }
+{
+    over_3::<K, V, Q, Branch<K, V, C, Q, 4>, T>(task)
+}
+
+/// With level 3 over a level below it.
+fn over_3<
+    K: Key<Q> + Send + Sync,
+    V: Item<Q> + Send + Sync,
+    Q: Stock + Send + Sync,
+    C: Level<K, V, Q> + Send + Sync,
+    T: Task<K, V, Q>,
+>(task: T) -> T::Out
+    requires above { C.LEVEL ≡ 4 }
+    requires stacked { C.Stacked }
+    requires takes { T.Takes task }
+    ensures { T.Gives task result }
+{
+    over_2::<K, V, Q, Branch<K, V, C, Q, 3>, T>(task)
+}
+
+/// With level 2 over a level below it.
+fn over_2<
+    K: Key<Q> + Send + Sync,
+    V: Item<Q> + Send + Sync,
+    Q: Stock + Send + Sync,
+    C: Level<K, V, Q> + Send + Sync,
+    T: Task<K, V, Q>,
+>(task: T) -> T::Out
+    requires above { C.LEVEL ≡ 3 }
+    requires stacked { C.Stacked }
+    requires takes { T.Takes task }
+    ensures { T.Gives task result }
+{
+    over_1::<K, V, Q, Branch<K, V, C, Q, 2>, T>(task)
+}
+
+/// With level 1 over a level below it.
+fn over_1<
+    K: Key<Q> + Send + Sync,
+    V: Item<Q> + Send + Sync,
+    Q: Stock + Send + Sync,
+    C: Level<K, V, Q> + Send + Sync,
+    T: Task<K, V, Q>,
+>(task: T) -> T::Out
+    requires above { C.LEVEL ≡ 2 }
+    requires stacked { C.Stacked }
+    requires takes { T.Takes task }
+    ensures { T.Gives task result }
+{
+    over_0::<K, V, Q, Branch<K, V, C, Q, 1>, T>(task)
+}
+
+/// With level 0 over a level below it.
+fn over_0<
+    K: Key<Q> + Send + Sync,
+    V: Item<Q> + Send + Sync,
+    Q: Stock + Send + Sync,
+    C: Level<K, V, Q> + Send + Sync,
+    T: Task<K, V, Q>,
+>(task: T) -> T::Out
+    requires above { C.LEVEL ≡ 1 }
+    requires stacked { C.Stacked }
+    requires takes { T.Takes task }
+    ensures { T.Gives task result }
+{
+    task.run::<Branch<K, V, C, Q, 0>>()
+}
