@@ -43,22 +43,24 @@ module _ (hash_of : Literal → ℕ) (level next : ℕ) (e : next ≡ level + 1)
   digit_long : (d : ℕ) → d < 32 → bit_at n d + 2 * bit_at m d ≤ length (slot_pairs (at d))
   unfolding at
   digit_long d h =
-      elim (cases_Bool (eqb (bit_at n d) 1))
-      [ inl a ↦
-          let w = some_at es (rank n d) (entry_place n m d _ _ fits h a) in
-          let s = slot_entry n m es cs d w.0 a (slice_get-get_or es (rank n d) w.0 (entry_place n m d _ _ fits h a) ∙ ap Some (sym w.1)) in
-          let one : length (slot_pairs (slot_at n m es cs d)) ≡ 1 = ap (λ t. length (slot_pairs t)) s ∙ ap length (slot_pairs-entry w.0) in
-          omega (arith, one, fits.apart d, eqb-true (bit_at n d) 1 a)
-      | inr a ↦
-          let z = bit_zero n d a in
-          (elim (cases_Bool (eqb (bit_at m d) 1))
-          [ inl b ↦
-              let w = some_at cs (rank m d) (child_place n m d _ _ fits h b) in
-              let s = slot_child n m es cs d w.0 a b (slice_get-get_or cs (rank m d) w.0 (child_place n m d _ _ fits h b) ∙ ap Some (sym w.1)) in
-              let two = child_long hash_of (slot_at n m es cs) level next e l canonical d h w.0 s in
-              let len : length (slot_pairs (slot_at n m es cs d)) ≡ length (pairs w.0) = ap (λ t. length (slot_pairs t)) s ∙ ap length (slot_pairs-child w.0) in
-              omega (arith, z, two, len, eqb-true (bit_at m d) 1 b)
-          | inr b ↦ omega (arith, z, bit_zero m d b) ]) ]
+      elim (cases_Bool (eqb (bit_at n d) 1)) [
+        | inl a ↦
+            let w = some_at es (rank n d) (entry_place n m d _ _ fits h a) in
+            let s = slot_entry n m es cs d w.0 a (slice_get-get_or es (rank n d) w.0 (entry_place n m d _ _ fits h a) ∙ ap Some (sym w.1)) in
+            let one : length (slot_pairs (slot_at n m es cs d)) ≡ 1 = ap (λ t. length (slot_pairs t)) s ∙ ap length (slot_pairs-entry w.0) in
+            omega (arith, one, fits.apart d, eqb-true (bit_at n d) 1 a)
+        | inr a ↦
+            let z = bit_zero n d a in
+            (elim (cases_Bool (eqb (bit_at m d) 1)) [
+              | inl b ↦
+                  let w = some_at cs (rank m d) (child_place n m d _ _ fits h b) in
+                  let s = slot_child n m es cs d w.0 a b (slice_get-get_or cs (rank m d) w.0 (child_place n m d _ _ fits h b) ∙ ap Some (sym w.1)) in
+                  let two = child_long hash_of (slot_at n m es cs) level next e l canonical d h w.0 s in
+                  let len : length (slot_pairs (slot_at n m es cs d)) ≡ length (pairs w.0) = ap (λ t. length (slot_pairs t)) s ∙ ap length (slot_pairs-child w.0) in
+                  omega (arith, z, two, len, eqb-true (bit_at m d) 1 b)
+              | inr b ↦ omega (arith, z, bit_zero m d b)
+            ])
+      ]
 
   -- the same of the digits below x, beside the pairs of one child that are counted apart
   some_digits : (d : ℕ) (s : Tree) → d < 32 → at d ≡ child s → bit_at n d ≡ 0 → bit_at m d ≡ 1 → (x : ℕ) → x ≤ 32 → rank n x + 2 * rank m x + cond (ltb d x) (length (pairs s)) 0 ≤ length (spread x (λ d. slot_pairs (at d))) + cond (ltb d x) 2 0
@@ -67,18 +69,20 @@ module _ (hash_of : Literal → ℕ) (level next : ℕ) (e : next ≡ level + 1)
   some_digits d s k f a b (suc x) h =
       let ih = some_digits d s k f a b x (omega arith) in
       let q = spread-suc x (λ d. slot_pairs (at d)) in
-      elim (cases_order d x)
-      [ inl p ↦
-          let len : length (slot_pairs (at x)) ≡ length (pairs s) = ap (λ y. length (slot_pairs (at y))) (sym p) ∙ ap (λ t. length (slot_pairs t)) f ∙ ap length (slot_pairs-child s) in
-          let a' : bit_at n x ≡ 0 = subst (λ y. bit_at n y ≡ 0) p a in
-          let b' : bit_at m x ≡ 1 = subst (λ y. bit_at m y ≡ 1) p b in
-          let i = rw (le-ltb d x (omega arith)) at ih in
-          rw (lt-ltb d (suc x) (omega arith)) (omega (arith, i, q, len, a', b'))
-      | inr p ↦
-          let g = digit_long x (omega arith) in
-          elim p
-          [ inl r ↦ let i = rw (lt-ltb d x r) at ih in rw (lt-ltb d (suc x) (omega arith)) (omega (arith, i, q, g))
-          | inr r ↦ let i = rw (le-ltb d x (omega arith)) at ih in rw (le-ltb d (suc x) (omega arith)) (omega (arith, i, q, g)) ] ]
+      elim (cases_order d x) [
+        | inl p ↦
+            let len : length (slot_pairs (at x)) ≡ length (pairs s) = ap (λ y. length (slot_pairs (at y))) (sym p) ∙ ap (λ t. length (slot_pairs t)) f ∙ ap length (slot_pairs-child s) in
+            let a' : bit_at n x ≡ 0 = subst (λ y. bit_at n y ≡ 0) p a in
+            let b' : bit_at m x ≡ 1 = subst (λ y. bit_at m y ≡ 1) p b in
+            let i = rw (le-ltb d x (omega arith)) at ih in
+            rw (lt-ltb d (suc x) (omega arith)) (omega (arith, i, q, len, a', b'))
+        | inr p ↦
+            let g = digit_long x (omega arith) in
+            elim p [
+              | inl r ↦ let i = rw (lt-ltb d x r) at ih in rw (lt-ltb d (suc x) (omega arith)) (omega (arith, i, q, g))
+              | inr r ↦ let i = rw (le-ltb d x (omega arith)) at ih in rw (le-ltb d (suc x) (omega arith)) (omega (arith, i, q, g))
+            ]
+      ]
 
   all_digits : (x : ℕ) → x ≤ 32 → rank n x + 2 * rank m x ≤ length (spread x (λ d. slot_pairs (at d)))
   unfolding rank

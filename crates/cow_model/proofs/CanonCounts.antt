@@ -46,9 +46,10 @@ pub filter-filter : (p q : Pair → Bool) (xs : List Pair) → filter p (filter 
 filter-filter p q [] = refl
 filter-filter p q (x ∷ xs) =
     let ih = filter-filter p q xs in
-    elim (cases_Bool (p x))
-    [ inl e ↦ (elim (cases_Bool (q x)) [ inl f ↦ simp (e, f, ih) | inr f ↦ simp (e, f, ih) ])
-    | inr e ↦ (elim (cases_Bool (q x)) [ inl f ↦ simp (e, f, ih) | inr f ↦ simp (e, f, ih) ]) ]
+    elim (cases_Bool (p x)) [
+      | inl e ↦ (elim (cases_Bool (q x)) [ inl f ↦ simp (e, f, ih) | inr f ↦ simp (e, f, ih) ])
+      | inr e ↦ (elim (cases_Bool (q x)) [ inl f ↦ simp (e, f, ih) | inr f ↦ simp (e, f, ih) ])
+    ]
 
 pub count-agree : (p q : Pair → Bool) → ((x : Pair) → p x ≡ q x) → (xs : List Pair) → count_where p xs ≡ count_where q xs
 count-agree p q h [] = refl
@@ -77,13 +78,15 @@ count_never p h (x ∷ xs) = rw (h x) (omega (arith, count_never p h xs))
 pub Each_from_count : (t : Pair → Bool) (xs : List Pair) → count_where (λ x. not (t x)) xs ≡ 0 → Each (λ x. t x ≡ true) xs
 Each_from_count t [] h = tt
 Each_from_count t (x ∷ xs) h =
-    elim (cases_Bool (t x))
-    [ inl e ↦ (e, Each_from_count t xs (omega (arith, h)))
-    | inr e ↦ absurd (let k : 1 + count_where (λ y. not (t y)) xs ≡ 0 = rw e at h in omega (arith, k)) ]
+    elim (cases_Bool (t x)) [
+      | inl e ↦ (e, Each_from_count t xs (omega (arith, h)))
+      | inr e ↦ absurd (let k : 1 + count_where (λ y. not (t y)) xs ≡ 0 = rw e at h in omega (arith, k))
+    ]
 
 pub count_none-from : (p q : Pair → Bool) → ((x : Pair) → q x ≡ false → p x ≡ false) → (xs : List Pair) → count_where q xs ≡ 0 → count_where p xs ≡ 0
 count_none-from p q f [] h = refl
 count_none-from p q f (x ∷ xs) h =
-    elim (cases_Bool (q x))
-    [ inl e ↦ absurd (let k : 1 + count_where q xs ≡ 0 = rw e at h in omega (arith, k))
-    | inr e ↦ rw (f x e) (let k : 0 + count_where q xs ≡ 0 = rw e at h in omega (arith, count_none-from p q f xs (omega (arith, k)))) ]
+    elim (cases_Bool (q x)) [
+      | inl e ↦ absurd (let k : 1 + count_where q xs ≡ 0 = rw e at h in omega (arith, k))
+      | inr e ↦ rw (f x e) (let k : 0 + count_where q xs ≡ 0 = rw e at h in omega (arith, count_none-from p q f xs (omega (arith, k))))
+    ]

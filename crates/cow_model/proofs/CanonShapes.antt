@@ -35,11 +35,13 @@ module _ (hash_of : Literal → ℕ) where
 
   below_step : (a n : ℕ) (b : Bool) → cond (ltb a n && b) 1 0 + cond (eqb a n && b) 1 0 ≡ cond (ltb a (suc n) && b) 1 0
   below_step a n b =
-      elim (cases_order a n)
-      [ inl e ↦ rw (le-ltb a n (omega arith), eq-eqb a n e, lt-ltb a (suc n) (omega arith)) (omega arith)
-      | inr k ↦ (elim k
-        [ inl l ↦ rw (lt-ltb a n l, ne_eqb a n (λ e. omega arith), lt-ltb a (suc n) (omega arith)) (omega arith)
-        | inr l ↦ rw (le-ltb a n (omega arith), ne_eqb a n (λ e. omega arith), le-ltb a (suc n) (omega arith)) refl ]) ]
+      elim (cases_order a n) [
+        | inl e ↦ rw (le-ltb a n (omega arith), eq-eqb a n e, lt-ltb a (suc n) (omega arith)) (omega arith)
+        | inr k ↦ (elim k [
+          | inl l ↦ rw (lt-ltb a n l, ne_eqb a n (λ e. omega arith), lt-ltb a (suc n) (omega arith)) (omega arith)
+          | inr l ↦ rw (le-ltb a n (omega arith), ne_eqb a n (λ e. omega arith), le-ltb a (suc n) (omega arith)) refl
+        ])
+      ]
 
   count-below : (t : Pair → Bool) (level n : ℕ) (ps : List Pair) → count_where (λ p. ltb (digit (hash_of p.key) level) n && t p) ps + count_where (λ p. at_digit level n p && t p) ps ≡ count_where (λ p. ltb (digit (hash_of p.key) level) (suc n) && t p) ps
   count-below t level n [] = refl
@@ -80,7 +82,7 @@ module _ (hash_of : Literal → ℕ) where
   group-group level d e ps h =
       count-filter (at_digit level d) (at_digit level e) ps
       ∙ count_never _ (λ p. elim (cases_Bool (at_digit level e p))
-          [ inl k ↦ rw k (ne_eqb _ d (λ c. h (sym c ∙ eqb-true _ e k))) | inr k ↦ rw k refl ]) ps
+      [ inl k ↦ rw k (ne_eqb _ d (λ c. h (sym c ∙ eqb-true _ e k))) | inr k ↦ rw k refl ]) ps
 
   pub group_whole : (level d : ℕ) (ps : List Pair) → count_where (λ p. not (at_digit level d p)) (group hash_of level d ps) ≡ 0
   unfolding group
@@ -99,9 +101,10 @@ module _ (hash_of : Literal → ℕ) where
   unfolding group spread
   group-spread level d f other own zero h = absurd (omega arith)
   group-spread level d f other own (suc n) h =
-      elim (cases_eq d n)
-      [ inl e ↦ rw (filter-append (at_digit level d) (spread n f) (f n), group-spread_below level d f other n (omega arith)) (subst (λ m. filter (at_digit level d) (f m) ≡ f d) e (filter_all (at_digit level d) (f d) own))
-      | inr k ↦ rw (filter-append (at_digit level d) (spread n f) (f n), filter_none (at_digit level d) (f n) (other n k), group-spread level d f other own n (omega arith)) (append-nil (f d)) ]
+      elim (cases_eq d n) [
+        | inl e ↦ rw (filter-append (at_digit level d) (spread n f) (f n), group-spread_below level d f other n (omega arith)) (subst (λ m. filter (at_digit level d) (f m) ≡ f d) e (filter_all (at_digit level d) (f d) own))
+        | inr k ↦ rw (filter-append (at_digit level d) (spread n f) (f n), filter_none (at_digit level d) (f n) (other n k), group-spread level d f other own n (omega arith)) (append-nil (f d))
+      ]
 
   pub slot_two : (below : List Pair → Tree) (xs : List Pair) → 2 ≤ length xs → slot_of hash_of below xs ≡ child (below xs)
   unfolding slot_of
@@ -145,7 +148,8 @@ module _ (hash_of : Literal → ℕ) where
   unfolding canon_over pairs
   canon_over_again zero level ps = ap collide (ascending-ascending ps)
   canon_over_again (suc n) level ps =
-      ap branch (fun_ext (λ d. elim (cases_lt d 32)
-        [ inl h ↦ ap (slot_of hash_of (canon_over hash_of n (suc level))) (group-canon_over n level d ps h)
+      ap branch (fun_ext (λ d. elim (cases_lt d 32) [
+        | inl h ↦ ap (slot_of hash_of (canon_over hash_of n (suc level))) (group-canon_over n level d ps h)
             ∙ slot_again (canon_over hash_of n (suc level)) (length-canon_over n (suc level)) (canon_over_again n (suc level)) (group hash_of level d ps)
-        | inr h ↦ ap (slot_of hash_of (canon_over hash_of n (suc level))) (group_past level d _ h ∙ sym (group_past level d ps h)) ]))
+        | inr h ↦ ap (slot_of hash_of (canon_over hash_of n (suc level))) (group_past level d _ h ∙ sym (group_past level d ps h))
+      ]))

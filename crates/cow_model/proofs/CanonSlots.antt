@@ -69,21 +69,23 @@ unfolding get group
 get-group hash_of level k [] = refl
 get-group hash_of level k (p ∷ ps) =
     let ih = get-group hash_of level k ps in
-    elim (cases_Bool (at_digit hash_of level (digit (hash_of k) level) p))
-    [ inl e ↦ rw e (ap (λ o. cond (has_key k p) (Some p.value) o) ih)
-    | inr e ↦
-        let f : has_key k p ≡ false = elim (cases_Bool (has_key k p)) [ inl g ↦ absurd (eqb-false _ _ e (ap (λ j. digit (hash_of j) level) (eq_means _ _ g))) | inr g ↦ g ] in
-        rw (e, f) ih ]
+    elim (cases_Bool (at_digit hash_of level (digit (hash_of k) level) p)) [
+      | inl e ↦ rw e (ap (λ o. cond (has_key k p) (Some p.value) o) ih)
+      | inr e ↦
+          let f : has_key k p ≡ false = elim (cases_Bool (has_key k p)) [ inl g ↦ absurd (eqb-false _ _ e (ap (λ j. digit (hash_of j) level) (eq_means _ _ g))) | inr g ↦ g ] in
+          rw (e, f) ih
+    ]
 
 pub AgreeBelow-group : (hash_of : Literal → ℕ) (level next : ℕ) → next ≡ level + 1 → (hash : ℕ) (ps : List Pair) → AgreeBelow hash_of level hash ps → AgreeBelow hash_of next hash (group hash_of level (digit hash level) ps)
 unfolding group
 AgreeBelow-group hash_of level next e hash ps a l h =
     let test : Pair → Bool = at_digit hash_of level (digit hash level) in
-    elim (cases_lt l level)
-    [ inl x ↦ All-filter test (λ p. digit (hash_of p.key) l ≡ digit hash l) ps (a l x)
-    | inr x ↦ λ k d m.
-        let same : level ≡ l = omega arith in
-        subst (λ j. digit (hash_of (get_or (filter test ps) k d).key) j ≡ digit hash j) same (eqb-true _ _ (filter_passes test ps k d m)) ]
+    elim (cases_lt l level) [
+      | inl x ↦ All-filter test (λ p. digit (hash_of p.key) l ≡ digit hash l) ps (a l x)
+      | inr x ↦ λ k d m.
+          let same : level ≡ l = omega arith in
+          subst (λ j. digit (hash_of (get_or (filter test ps) k d).key) j ≡ digit hash j) same (eqb-true _ _ (filter_passes test ps k d m))
+    ]
 
 pub group-given_same : (hash_of : Literal → ℕ) (level : ℕ) (k v : Literal) (ps : List Pair) → group hash_of level (digit (hash_of k) level) (given k v ps) ≡ given k v (group hash_of level (digit (hash_of k) level) ps)
 unfolding group without
@@ -95,14 +97,15 @@ pub group-given_other : (hash_of : Literal → ℕ) (level d : ℕ) (k v : Liter
 unfolding group without
 group-given_other hash_of level d k v ps h =
     rw (ne_eqb (digit (hash_of k) level) d (λ e. h (sym e)))
-      (filter-filter (at_digit hash_of level d) (λ q. not (has_key k q)) ps
-      ∙ filter_all (λ q. not (has_key k q)) (filter (at_digit hash_of level d) ps)
-          (count-filter (λ q. not (not (has_key k q))) (at_digit hash_of level d) ps
-          ∙ count_never (λ p. at_digit hash_of level d p && not (not (has_key k p))) (λ p. elim (cases_Bool (at_digit hash_of level d p))
-              [ inl e ↦
-                  let f : has_key k p ≡ false = elim (cases_Bool (has_key k p)) [ inl g ↦ absurd (h (sym (eqb-true _ _ e) ∙ ap (λ j. digit (hash_of j) level) (eq_means _ _ g))) | inr g ↦ g ] in
-                  rw (e, f) refl
-              | inr e ↦ rw e refl ]) ps))
+    (filter-filter (at_digit hash_of level d) (λ q. not (has_key k q)) ps
+    ∙ filter_all (λ q. not (has_key k q)) (filter (at_digit hash_of level d) ps)
+    (count-filter (λ q. not (not (has_key k q))) (at_digit hash_of level d) ps
+    ∙ count_never (λ p. at_digit hash_of level d p && not (not (has_key k p))) (λ p. elim (cases_Bool (at_digit hash_of level d p)) [
+      | inl e ↦
+          let f : has_key k p ≡ false = elim (cases_Bool (has_key k p)) [ inl g ↦ absurd (h (sym (eqb-true _ _ e) ∙ ap (λ j. digit (hash_of j) level) (eq_means _ _ g))) | inr g ↦ g ] in
+          rw (e, f) refl
+      | inr e ↦ rw e refl
+    ]) ps))
 
 pub length-without : (k : Literal) (ps : List Pair) → length (without k ps) + count_where (has_key k) ps ≡ length ps
 unfolding without
@@ -142,13 +145,14 @@ module _ (hash_of : Literal → ℕ) where
   pub IsDistinct-given : (k v : Literal) (ps : List Pair) → IsDistinct ps → IsDistinct (given k v ps)
   unfolding without
   IsDistinct-given k v ps h k' =
-      elim (cases_Bool (is_one k k'))
-      [ inl e ↦ rw e
-          (let z : count_where (has_key k) (filter (λ q. not (has_key k q)) ps) ≡ 0 =
-              count-filter (has_key k) (λ q. not (has_key k q)) ps
-              ∙ count_never _ (λ q. elim (has_key k q) as (λ b. (not b && b) ≡ false) [ true ↦ refl | false ↦ refl ]) ps in
-          subst (λ j. 1 + count_where (has_key j) (filter (λ q. not (has_key k q)) ps) ≤ 1) (eq_means k k' e) (omega (arith, z)))
-      | inr e ↦ rw e (omega (arith, h k', count-filter-le (has_key k') (λ q. not (has_key k q)) ps)) ]
+      elim (cases_Bool (is_one k k')) [
+        | inl e ↦ rw e
+            (let z : count_where (has_key k) (filter (λ q. not (has_key k q)) ps) ≡ 0 =
+            count-filter (has_key k) (λ q. not (has_key k q)) ps
+            ∙ count_never _ (λ q. elim (has_key k q) as (λ b. (not b && b) ≡ false) [ true ↦ refl | false ↦ refl ]) ps in
+            subst (λ j. 1 + count_where (has_key j) (filter (λ q. not (has_key k q)) ps) ≤ 1) (eq_means k k' e) (omega (arith, z)))
+        | inr e ↦ rw e (omega (arith, h k', count-filter-le (has_key k') (λ q. not (has_key k q)) ps))
+      ]
 
   module _ (at : ℕ → Slot) (level next : ℕ) (e : next ≡ level + 1) (h : next ≤ 7) (c : IsCanonical hash_of (branch at) level) where
     pub at_is : (d : ℕ) → at d ≡ slot_of hash_of (λ qs. canon hash_of qs next) (group hash_of level d (pairs (branch at)))
@@ -167,7 +171,7 @@ module _ (hash_of : Literal → ℕ) where
     child_of : (d : ℕ) → d < 32 → (s : Tree) → at d ≡ child s → (2 ≤ length (pairs s)) × (s ≡ canon hash_of (pairs s) next)
     child_of d k s f =
         slot_of_child hash_of (λ qs. canon hash_of qs next) (pairs s) s
-          (sym f ∙ at_again d k ∙ ap (λ t. slot_of hash_of (λ qs. canon hash_of qs next) (slot_pairs t)) f ∙ ap (slot_of hash_of (λ qs. canon hash_of qs next)) (slot_pairs-child s))
+        (sym f ∙ at_again d k ∙ ap (λ t. slot_of hash_of (λ qs. canon hash_of qs next) (slot_pairs t)) f ∙ ap (slot_of hash_of (λ qs. canon hash_of qs next)) (slot_pairs-child s))
 
     pub child_long : (d : ℕ) → d < 32 → (s : Tree) → at d ≡ child s → 2 ≤ length (pairs s)
     child_long d k s f = (child_of d k s f).0
@@ -178,9 +182,9 @@ module _ (hash_of : Literal → ℕ) where
     pub child_canonical : (d : ℕ) → d < 32 → (s : Tree) → at d ≡ child s → IsCanonical hash_of s next
     child_canonical d k s f = record {
       distinct = λ j.
-        let a = count-group-le hash_of (has_key j) level d (pairs (branch at)) in
-        let b : count_where (has_key j) (group hash_of level d (pairs (branch at))) ≡ count_where (has_key j) (pairs s) = ap (count_where (has_key j)) (child_group d k s f) in
-        omega (arith, a, b, c.distinct j);
+          let a = count-group-le hash_of (has_key j) level d (pairs (branch at)) in
+          let b : count_where (has_key j) (group hash_of level d (pairs (branch at))) ≡ count_where (has_key j) (pairs s) = ap (count_where (has_key j)) (child_group d k s f) in
+          omega (arith, a, b, c.distinct j);
       shape = (child_of d k s f).1;
     }
 
@@ -211,10 +215,11 @@ module _ (hash_of : Literal → ℕ) where
     given_at k v at' other here =
         let d' = digit (hash_of k) level in
         let below : List Pair → Tree = λ qs. canon hash_of qs next in
-        ap branch (fun_ext (λ d. elim (cases_eq d d')
-          [ inl q ↦ subst (λ x. at' x ≡ slot_of hash_of below (group hash_of level x (given k v (pairs (branch at))))) (sym q)
+        ap branch (fun_ext (λ d. elim (cases_eq d d') [
+          | inl q ↦ subst (λ x. at' x ≡ slot_of hash_of below (group hash_of level x (given k v (pairs (branch at))))) (sym q)
               (here ∙ ap (λ ps. slot_of hash_of below (given k v ps)) (sym (group_is d' (digit-lt (hash_of k) level))) ∙ ap (slot_of hash_of below) (sym (group-given_same hash_of level k v (pairs (branch at)))))
-          | inr q ↦ other d q ∙ at_is d ∙ ap (slot_of hash_of below) (sym (group-given_other hash_of level d k v (pairs (branch at)) q)) ]))
+          | inr q ↦ other d q ∙ at_is d ∙ ap (slot_of hash_of below) (sym (group-given_other hash_of level d k v (pairs (branch at)) q))
+        ]))
         ∙ sym (canon-branch (given k v (pairs (branch at))) level next e h)
 
   -- the slot of a digit after its key was given a value
@@ -239,7 +244,7 @@ module _ (hash_of : Literal → ℕ) where
     given_here : at' d ≡ slot_of hash_of (λ qs. canon hash_of qs next) (given k v (slot_pairs (at d))) → branch at' ≡ canon hash_of (given k v (pairs (branch at))) level
     given_here q =
         given_at at level next e h c k v at' (λ x ne. others x (λ y. ne (y ∙ here)))
-          (subst (λ x. at' x ≡ slot_of hash_of (λ qs. canon hash_of qs next) (given k v (slot_pairs (at x)))) here q)
+        (subst (λ x. at' x ≡ slot_of hash_of (λ qs. canon hash_of qs next) (given k v (slot_pairs (at x)))) here q)
 
     below_32 : d < 32
     below_32 = subst (λ x. x < 32) (sym here) (digit-lt (hash_of k) level)
@@ -250,7 +255,7 @@ module _ (hash_of : Literal → ℕ) where
     pub given_at_same : (q : Pair) → at d ≡ entry q → is_one q.key k ≡ true → at' d ≡ entry (record { key = q.key; value = v }) → branch at' ≡ canon hash_of (given k v (pairs (branch at))) level
     given_at_same q f m g =
         given_here (g ∙ ap (λ x. entry (record { key = x; value = v })) (eq_means q.key k m)
-          ∙ sym (ap (λ t. slot_of hash_of (λ qs. canon hash_of qs next) (given k v (slot_pairs t))) f ∙ given_same (λ qs. canon hash_of qs next) k v q m))
+        ∙ sym (ap (λ t. slot_of hash_of (λ qs. canon hash_of qs next) (given k v (slot_pairs t))) f ∙ given_same (λ qs. canon hash_of qs next) k v q m))
 
     pub given_at_two : (q : Pair) → at d ≡ entry q → is_one q.key k ≡ false → (s : Tree) → s ≡ canon hash_of (record { key = k; value = v } ∷ q ∷ []) next → at' d ≡ child s → branch at' ≡ canon hash_of (given k v (pairs (branch at))) level
     given_at_two q f m s n g =
@@ -259,7 +264,7 @@ module _ (hash_of : Literal → ℕ) where
     pub given_at_child : (s : Tree) → at d ≡ child s → (s' : Tree) → s' ≡ canon hash_of (given k v (pairs s)) next → at' d ≡ child s' → branch at' ≡ canon hash_of (given k v (pairs (branch at))) level
     given_at_child s f s' n g =
         given_here (g ∙ ap child n ∙ sym (ap (λ t. slot_of hash_of (λ qs. canon hash_of qs next) (given k v (slot_pairs t))) f
-          ∙ given_child (λ qs. canon hash_of qs next) k v s (child_long at level next e h c d below_32 s f) (child_canonical at level next e h c d below_32 s f).distinct))
+        ∙ given_child (λ qs. canon hash_of qs next) k v s (child_long at level next e h c d below_32 s f) (child_canonical at level next e h c d below_32 s f).distinct))
 
 -- a node with the same slots
 pub same_branch : (at at' : ℕ → Slot) (d : ℕ) → at' d ≡ at d → ((x : ℕ) → x ≢ d → at' x ≡ at x) → branch at' ≡ branch at

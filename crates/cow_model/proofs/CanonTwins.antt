@@ -54,22 +54,25 @@ module _ (hash_of : Literal → ℕ) (at : ℕ → Slot) (level next : ℕ) (e :
     pub pair_together : (d : ℕ) → d ≡ digit (hash_of p.key) level → d ≡ digit (hash_of q.key) level → (s : Tree) → s ≡ canon hash_of (p ∷ q ∷ []) next → at d ≡ child s → ((x : ℕ) → x ≢ d → at x ≡ free) → branch at ≡ canon hash_of (p ∷ q ∷ []) level
     pair_together d a b s c here others =
         let below : List Pair → Tree = λ qs. canon hash_of qs next in
-        slots_are (λ x. elim (cases_eq x d)
-          [ inl k ↦ subst (λ y. at y ≡ slot_of hash_of below (group hash_of level y (p ∷ q ∷ []))) (sym k)
+        slots_are (λ x. elim (cases_eq x d) [
+          | inl k ↦ subst (λ y. at y ≡ slot_of hash_of below (group hash_of level y (p ∷ q ∷ []))) (sym k)
               (here ∙ ap child c ∙ sym (ap (slot_of hash_of below) (group_in hash_of level d p (q ∷ []) a ∙ ap (λ ys. p ∷ ys) (group_in hash_of level d q [] b ∙ ap (λ ys. q ∷ ys) (group_nil hash_of level d))) ∙ slot_both hash_of level below p q))
-          | inr ne ↦ others x ne ∙ sym (ap (slot_of hash_of below) (group_out hash_of level x p (q ∷ []) (λ y. ne (y ∙ sym a)) ∙ group_out hash_of level x q [] (λ y. ne (y ∙ sym b)) ∙ group_nil hash_of level x) ∙ slot_empty hash_of level below) ])
+          | inr ne ↦ others x ne ∙ sym (ap (slot_of hash_of below) (group_out hash_of level x p (q ∷ []) (λ y. ne (y ∙ sym a)) ∙ group_out hash_of level x q [] (λ y. ne (y ∙ sym b)) ∙ group_nil hash_of level x) ∙ slot_empty hash_of level below)
+        ])
 
     -- each at a digit of its own
     pub pair_apart : (d f : ℕ) → d ≡ digit (hash_of p.key) level → f ≡ digit (hash_of q.key) level → d ≢ f → at d ≡ entry p → at f ≡ entry q → ((x : ℕ) → x ≢ d → x ≢ f → at x ≡ free) → branch at ≡ canon hash_of (p ∷ q ∷ []) level
     pair_apart d f a b ne one two others =
         let below : List Pair → Tree = λ qs. canon hash_of qs next in
-        slots_are (λ x. elim (cases_eq x d)
-          [ inl k ↦ subst (λ y. at y ≡ slot_of hash_of below (group hash_of level y (p ∷ q ∷ []))) (sym k)
+        slots_are (λ x. elim (cases_eq x d) [
+          | inl k ↦ subst (λ y. at y ≡ slot_of hash_of below (group hash_of level y (p ∷ q ∷ []))) (sym k)
               (one ∙ sym (ap (slot_of hash_of below) (group_in hash_of level d p (q ∷ []) a ∙ ap (λ ys. p ∷ ys) (group_out hash_of level d q [] (λ y. ne (y ∙ sym b)) ∙ group_nil hash_of level d)) ∙ slot_one hash_of level below p))
-          | inr nd ↦ (elim (cases_eq x f)
-              [ inl k ↦ subst (λ y. at y ≡ slot_of hash_of below (group hash_of level y (p ∷ q ∷ []))) (sym k)
-                  (two ∙ sym (ap (slot_of hash_of below) (group_out hash_of level f p (q ∷ []) (λ y. ne (a ∙ sym y)) ∙ group_in hash_of level f q [] b ∙ ap (λ ys. q ∷ ys) (group_nil hash_of level f)) ∙ slot_one hash_of level below q))
-              | inr nf ↦ others x nd nf ∙ sym (ap (slot_of hash_of below) (group_out hash_of level x p (q ∷ []) (λ y. nd (y ∙ sym a)) ∙ group_out hash_of level x q [] (λ y. nf (y ∙ sym b)) ∙ group_nil hash_of level x) ∙ slot_empty hash_of level below) ]) ])
+          | inr nd ↦ (elim (cases_eq x f) [
+            | inl k ↦ subst (λ y. at y ≡ slot_of hash_of below (group hash_of level y (p ∷ q ∷ []))) (sym k)
+                (two ∙ sym (ap (slot_of hash_of below) (group_out hash_of level f p (q ∷ []) (λ y. ne (a ∙ sym y)) ∙ group_in hash_of level f q [] b ∙ ap (λ ys. q ∷ ys) (group_nil hash_of level f)) ∙ slot_one hash_of level below q))
+            | inr nf ↦ others x nd nf ∙ sym (ap (slot_of hash_of below) (group_out hash_of level x p (q ∷ []) (λ y. nd (y ∙ sym a)) ∙ group_out hash_of level x q [] (λ y. nf (y ∙ sym b)) ∙ group_nil hash_of level x) ∙ slot_empty hash_of level below)
+          ])
+        ])
 
 -- seven digits determine a hash of 32 bits
 digits_below : (a b : ℕ) → ((l : ℕ) → l < 7 → digit a l ≡ digit b l) → (n : ℕ) → n ≤ 7 → a % 2 ^ (5 * n) ≡ b % 2 ^ (5 * n)
@@ -111,9 +114,10 @@ unfolding group
 count_group hash_of t level d f ps =
     count-filter t (at_digit hash_of level d) ps
     ∙ count-agree (λ p. at_digit hash_of level d p && t p) t
-        (λ p. elim (cases_Bool (t p))
-          [ inl a ↦ rw (a, eq-eqb (digit (hash_of p.key) level) d (f p a)) refl
-          | inr a ↦ (elim (cases_Bool (at_digit hash_of level d p)) [ inl b ↦ rw (b, a) refl | inr b ↦ rw (b, a) refl ]) ]) ps
+    (λ p. elim (cases_Bool (t p)) [
+      | inl a ↦ rw (a, eq-eqb (digit (hash_of p.key) level) d (f p a)) refl
+      | inr a ↦ (elim (cases_Bool (at_digit hash_of level d p)) [ inl b ↦ rw (b, a) refl | inr b ↦ rw (b, a) refl ])
+    ]) ps
 
 -- and so the slot of that digit has them all
 pub count_at : (hash_of : Literal → ℕ) (at : ℕ → Slot) (level next : ℕ) → next ≡ level + 1 → next ≤ 7 → IsCanonical hash_of (branch at) level → (t : Pair → Bool) (d : ℕ) → d < 32 → ((p : Pair) → t p ≡ true → digit (hash_of p.key) level ≡ d) → count_where t (pairs (branch at)) ≡ count_where t (slot_pairs (at d))
