@@ -1,0 +1,5 @@
+pub mod Openings
+pub mod Rings
+pub mod Shifts
+pub mod Slides
+pub mod Turns
