@@ -18,7 +18,8 @@
 //! The invariant of a deque: the items of the storage are settled, so that a copy of one can't be refused.
 //!
 //! `new` and `from_vec` may always answer want of memory, so a body that only does so meets the contract. A
-//! change of a storage that isn't known to be unshared may answer it too. No test shows yet that such calls succeed.
+//! change of a storage that isn't known to be unshared may answer it too. The tests show that such calls
+//! succeed.
 #![tactic(auto)]
 
 mod deque;

@@ -271,7 +271,7 @@ module _ (place : Placing) where
   past : (r p : Pair) (ps : List Pair) → same r.key p.key ≡ false → member r.key (keys (p ∷ ps)) ≡ true → member r.key (keys ps) ≡ true
   past r p ps e m = sym (ap (λ b. b || member r.key (keys ps)) e) ∙ m
 
-  put-keys : (r : Pair) (ps : List Pair) → member r.key (keys ps) ≡ true → keys (put place ps r) ≡ keys ps
+  pub put-keys : (r : Pair) (ps : List Pair) → member r.key (keys ps) ≡ true → keys (put place ps r) ≡ keys ps
   put-keys r [] m = absurd (true≢false (sym m))
   put-keys r (p ∷ ps) m = on_side (same r.key p.key)
       (λ e. ap keys (put-here r p ps e) ∙ ap (λ k. k ∷ keys ps) (same-is r.key p.key e))

@@ -18,9 +18,9 @@ use Rattle.cow_model.specs.Pairs.{in_order, place_in, value_in, put, put_new, pu
 use Rattle.cow_model.specs.Purse.{Purse, Moves}
 use Rattle.cow_model.specs.declared.plain.Literal.{Literal}
 use Rattle.cow_model.specs.declared.value.Pair.{Pair}
-use Rattle.cow_set.proofs.Loops.{apart-front}
-use Rattle.cow_set.proofs.Operations.{lacking-ascending, union-within}
-use Rattle.cow_set.specs.Sets.{lacking}
+use Rattle.cow_members.proofs.Loops.{apart-front}
+use Rattle.cow_members.proofs.Operations.{lacking-ascending, union-within}
+use Rattle.cow_members.specs.Sets.{lacking}
 use Rattle.cow_dict.specs.Dictionaries.{either_of, merged, only_if, units}
 use Rattle.cow_dict.specs.Storages.{pair_of, keys, by_key}
 use Rattle.cow_dict.proofs.Maps.{Distinct, choice, has-member, member-value, value-cons, value-past, value-none, value-front, value-put, value-by_key, value-permutes, ascends-put, ascends-by_key, distinct-ascending, distinct-permutes, keys-tail, keys-in_order, keys-by_key, same-map, length-by_key, permutes}
@@ -42,10 +42,10 @@ comes-at : (r : Pair) (ps : List Pair) (o : Option ℕ) → is_some o ≡ false 
 comes-at r ps None e = refl
 comes-at r ps (Some i) e = absurd (true≢false e)
 
-put_new-there : (r : Pair) (ps : List Pair) → member r.key (keys ps) ≡ true → put_new in_order ps r ≡ ps
+pub put_new-there : (r : Pair) (ps : List Pair) → member r.key (keys ps) ≡ true → put_new in_order ps r ≡ ps
 put_new-there r ps m = stays-at r ps (place_in r.key ps) (has-member r.key ps ∙ m)
 
-put_new-absent : (r : Pair) (ps : List Pair) → member r.key (keys ps) ≡ false → put_new in_order ps r ≡ in_order r ps
+pub put_new-absent : (r : Pair) (ps : List Pair) → member r.key (keys ps) ≡ false → put_new in_order ps r ≡ in_order r ps
 put_new-absent r ps m = comes-at r ps (place_in r.key ps) (has-member r.key ps ∙ m)
 
 ascends-put_new : (r : Pair) (ps : List Pair) → Ascends (keys ps) → Ascends (keys (put_new in_order ps r))
@@ -90,11 +90,11 @@ value-keeps ps (r ∷ rs) s q =
     ∙ turn-keeps (same q r.key) (value_in q ps) (value_in q rs) r.value
     ∙ ap (either_of (value_in q ps)) (sym (value-cons q r rs))
 
-value-merge : (t : Bool) (ps rs : List Pair) → Ascends (keys ps) → Distinct rs → (q : Literal) → value_in q (merge in_order t ps rs) ≡ merged t (value_in q rs) (value_in q ps)
+pub value-merge : (t : Bool) (ps rs : List Pair) → Ascends (keys ps) → Distinct rs → (q : Literal) → value_in q (merge in_order t ps rs) ≡ merged t (value_in q rs) (value_in q ps)
 value-merge true ps rs s d q = value-takes ps rs s d q
 value-merge false ps rs s d q = value-keeps ps rs s q
 
-ascends-merge : (t : Bool) (ps rs : List Pair) → Ascends (keys ps) → Ascends (keys (merge in_order t ps rs))
+pub ascends-merge : (t : Bool) (ps rs : List Pair) → Ascends (keys ps) → Ascends (keys (merge in_order t ps rs))
 ascends-merge true ps [] s = s
 ascends-merge true ps (r ∷ rs) s = ascends-merge true (put in_order ps r) rs (ascends-put r ps s)
 ascends-merge false ps [] s = s

@@ -70,7 +70,7 @@ all-kept p (r ∷ ps) e =
     let both = and-both (p r.key) (list_all p (keys ps)) e in
     ap (λ l. r ∷ l) (all-kept p ps both.1) ∙ sym (ap (λ t. cond t (r ∷ kept_by p ps) (kept_by p ps)) both.0)
 
-value-held : (ps rs : List Pair) → list_all (holds ps) rs ≡ true → (q v : Literal) → value_in q rs ≡ Some v → value_in q ps ≡ Some v
+pub value-held : (ps rs : List Pair) → list_all (holds ps) rs ≡ true → (q v : Literal) → value_in q rs ≡ Some v → value_in q ps ≡ Some v
 value-held ps [] all q v e = cc
 value-held ps (r ∷ rs) all q v e =
     let both = and-both (holds ps r) (list_all (holds ps) rs) all in
@@ -78,7 +78,7 @@ value-held ps (r ∷ rs) all q v e =
     (λ s. ap (λ k. value_in k ps) (same-is q r.key s) ∙ is-held r.value (value_in r.key ps) both.0 ∙ sym (value-here q r rs s) ∙ e)
     (λ s. value-held ps rs both.1 q v (sym (value-past q r rs s) ∙ e))
 
-all-held : (ps rs : List Pair) → Distinct rs → ((q v : Literal) → value_in q rs ≡ Some v → value_in q ps ≡ Some v) → list_all (holds ps) rs ≡ true
+pub all-held : (ps rs : List Pair) → Distinct rs → ((q v : Literal) → value_in q rs ≡ Some v → value_in q ps ≡ Some v) → list_all (holds ps) rs ≡ true
 all-held ps [] d h = refl
 all-held ps (r ∷ rs) d h =
     let t = keys-tail r.key (keys rs) d in

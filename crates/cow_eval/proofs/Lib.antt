@@ -5,6 +5,7 @@ pub mod Costs
 pub mod Flags
 pub mod Handing
 pub mod Itself
+pub mod Makes
 pub mod Places
 pub mod Reading
 pub mod Ready

@@ -93,6 +93,7 @@ impl<T: Key<Q>, Q: Stock> Heap<T, Q> {
     /// The least element; `None` exactly where there is none. Swift's `min`. One step.
     pub fn min(&self) -> Option<&T>
         ensures value { option_map (λ x. T.plain x.now) result ≡ slice_get self.now.value 0 }
+        ensures ascends { ascending self.now.value ≡ self.now.value }
         ensures settled { IfSome result (λ x. T.IsSettled x.now) }
     {
         let row = self.cell.get();
@@ -106,6 +107,7 @@ impl<T: Key<Q>, Q: Stock> Heap<T, Q> {
     pub fn max(&self) -> Option<&T>
         ensures value { option_map (λ x. T.plain x.now) result
             ≡ slice_get self.now.value (length self.now.value - 1) }
+        ensures ascends { ascending self.now.value ≡ self.now.value }
         ensures settled { IfSome result (λ x. T.IsSettled x.now) }
     {
         let row = self.cell.get();

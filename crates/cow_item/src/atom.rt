@@ -1,6 +1,7 @@
 ghost use Rattle.std.specs.Prelude.{◌≡◌, ◌≤◌, IfOk, OnOk, OnErr};
 ghost use Rattle.cow_model.specs.Purse.{less, noted, unit_if};
 ghost use Rattle.cow_model.specs.Hash.{literal_hash};
+ghost use Rattle.cow_model.proofs.Hashes.{literal_fits};
 ghost use Rattle.cow_model.specs.Literals.{is_text, FitsText};
 ghost use Rattle.cow_item.specs.Atoms.{plain_of_atom, IsSettledAtom};
 ghost use Rattle.std.proofs.Common.{rules};
@@ -104,4 +105,6 @@ impl<Q: Stock> Key<Q> for Atom<Q> {
             (Atom::Text(s), Atom::Text(t)) => s.order(t),
         }
     }
+
+    ghost hash_fits = { literal_fits };
 }

@@ -1,4 +1,4 @@
-ghost use Rattle.std.specs.Prelude.{◌≡◌, ℕ, ◌*◌, ◌≤◌, ◌↔◌, Bool, IsTrue};
+ghost use Rattle.std.specs.Prelude.{◌≡◌, ℕ, ◌*◌, ◌^◌, ◌≤◌, ◌<◌, ◌↔◌, Bool, IsTrue};
 ghost use Rattle.cow_model.specs.Purse.{less, more, noted, unit_if};
 ghost use Rattle.cow_model.specs.Order.{literal_cmp};
 ghost use Rattle.cow_model.specs.declared.plain.Literal.{Literal as Plain};
@@ -74,4 +74,7 @@ pub trait Key<Q: Stock>: Item<Q> {
     /// before lists, integers go by value, lists by their numbers, a proper prefix first.
     fn order(&self, other: &Self) -> Ordering
         ensures { result ≡ literal_cmp (Self.plain self.now) (Self.plain other.now) };
+
+    /// A hash fits 32 bits.
+    ghost hash_fits: { (p : Plain) → hash_of p < 2 ^ 32 };
 }

@@ -1,6 +1,7 @@
 // Integers, and `()`, whose plain value is 0.
 ghost use Rattle.std.specs.Prelude.{pos, false, ⊤};
 ghost use Rattle.cow_model.specs.Hash.{literal_hash};
+ghost use Rattle.cow_model.proofs.Hashes.{literal_fits};
 ghost use Rattle.cow_model.specs.declared.plain.Literal.TheVariants.{Int};
 ghost use Rattle.std.proofs.Common.{rules};
 
@@ -45,6 +46,8 @@ impl<Q: Stock> Key<Q> for i64 {
     fn order(&self, other: &Self) -> Ordering {
         self.cmp(other)
     }
+
+    ghost hash_fits = { literal_fits };
 }
 
 impl<Q: Stock> Item<Q> for () {
@@ -81,4 +84,6 @@ impl<Q: Stock> Key<Q> for () {
     fn order(&self, _other: &Self) -> Ordering {
         Ordering::Equal
     }
+
+    ghost hash_fits = { literal_fits };
 }

@@ -1,6 +1,7 @@
 ghost use Rattle.std.specs.Prelude.{◌≡◌, ◌≤◌, length, IfOk, OnOk, OnErr, true, false};
 ghost use Rattle.cow_model.specs.Purse.{less};
 ghost use Rattle.cow_model.specs.Hash.{literal_hash};
+ghost use Rattle.cow_model.proofs.Hashes.{literal_fits};
 ghost use Rattle.cow_model.specs.declared.plain.Literal.TheVariants.{Text as Chars};
 ghost use Rattle.std.proofs.Common.{rules};
 
@@ -103,4 +104,6 @@ impl<Q: Stock> Key<Q> for Text<Q> {
     fn order(&self, other: &Self) -> Ordering {
         self.bytes().cmp(other.bytes())
     }
+
+    ghost hash_fits = { literal_fits };
 }

@@ -15,7 +15,7 @@ one : (x y : Literal) → same x y ≡ true → x ≡ y
 one x y e = literal_cmp-IsAntisymmetric x y ((Equal-is (literal_cmp x y)).0 e)
 
 -- two atoms are one exactly where they are equal
-one-or-not : (x y : Literal) → Decides (same x y) (x ≡ y)
+pub one-or-not : (x y : Literal) → Decides (same x y) (x ≡ y)
 one-or-not x y = (one x y, λ e. rw e ((eq_by_cmp_equiv literal_cmp_total).refl y))
 
 -- a test of equality is what tells whether two lists are one

@@ -1,4 +1,7 @@
 pub mod Alike
+pub mod Dicts
 pub mod Equals
+pub mod Heaps
 pub mod Printing
+pub mod Sets
 pub mod Units

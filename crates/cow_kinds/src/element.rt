@@ -6,10 +6,11 @@ ghost use Rattle.cow_model.specs.Purse.{less, noted, unit_if};
 ghost use Rattle.std.proofs.Common.{rules};
 
 use cow_cell::{Holder, Stock};
-use cow_item::{Atom, Item, Key, Text};
+use cow_item::{Atom, Equivalent, Item, Key, Text};
 use cow_model::{Literal, NoMemory};
 use cow_print::put_atom;
 use std::alloc::Global;
+use std::marker::PhantomData;
 
 /// What the collections of a script hold: a key that is made of a literal and that is printed. One copy
 /// of it counts one.
@@ -47,7 +48,42 @@ pub trait Element<Q: Stock>: Key<Q> {
     fn is_literal(&self, literal: &Literal) -> bool
         ensures { IsTrue result ↔ (Self.plain self.now ≡ literal.now) };
 
+    /// The hash of the element of the literal. Takes no memory.
+    fn literal_hash(literal: &Literal) -> u32
+        ensures { result ≡ Self.hash_of literal.now };
+
     ghost weighs_one: { Self.WEIGHT ≡ 1 };
+}
+
+/// A literal by which an element of type `T` is looked for, of which no element is made.
+#[derive(Drop)]
+pub struct Sought<'a, T> {
+    literal: &'a Literal,
+    element: PhantomData<T>,
+}
+
+impl<'a, T> Sought<'a, T> {
+    /// What is looked for is the element of `literal`.
+    pub fn by(literal: &'a Literal) -> Sought<'a, T>
+        ensures { result.literal.now ≡ literal.now }
+    {
+        Sought {
+            literal,
+            element: PhantomData,
+        }
+    }
+}
+
+impl<'a, T: Element<Q>, Q: Stock> Equivalent<T, Q> for Sought<'a, T> {
+    ghost sought = { λ s. s.literal.now };
+
+    fn sought_hash(&self) -> u32 {
+        T::literal_hash(self.literal)
+    }
+
+    fn stands_for(&self, key: &T) -> bool {
+        key.is_literal(self.literal)
+    }
 }
 
 impl<Q: Stock> Element<Q> for Atom<Q> {
@@ -68,6 +104,10 @@ impl<Q: Stock> Element<Q> for Atom<Q> {
             (Atom::Text(text), Literal::Text(bytes)) => text.bytes() == bytes.as_slice(),
             _ => false,
         }
+    }
+
+    fn literal_hash(literal: &Literal) -> u32 {
+        Equivalent::<Atom<Q>, Q>::sought_hash(literal)
     }
 
     ghost weighs_one = { Prim.search rules };

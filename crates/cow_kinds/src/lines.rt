@@ -45,11 +45,17 @@ pub fn put_element_at<T: Element<Q>, Q: Stock, L: Listed<T, Q>>(
 {
     match list.at(place) {
         Some(x) => put_element(x, text),
-        None => {
-            text.extend_from_slice(b"nil\n")?;
-            Ok(())
-        }
+        None => put_nil(text),
     }
+}
+
+/// The line `nil`.
+pub fn put_nil(text: &mut Vec<u8>) -> Result<(), NoMemory>
+    ensures ok { OnOk result (text.new.items ≡ text.old.items ++ line (codes "nil")) }
+    ensures err { OnErr result (text.new.items ≡ text.old.items) }
+{
+    text.extend_from_slice(b"nil\n")?;
+    Ok(())
 }
 
 // The number and a newline. Want of memory leaves a part of them.

@@ -100,3 +100,19 @@ pub fn put_list_from<T: Element<Q>, Q: Stock, L: Listed<T, Q>>(
     text.extend_from_slice(buffer.format(start).as_bytes())?;
     Ok(())
 }
+
+/// Elements in the order in which they are printed.
+impl<'a, T: Element<Q>, Q: Stock> Listed<T, Q> for Vec<&'a T> {
+    ghost elements = { λ v. map (λ x. T.plain x.now) v.items };
+
+    fn size(&self) -> usize {
+        self.len()
+    }
+
+    fn at(&self, place: usize) -> Option<&T> {
+        match self.get(place) {
+            Some(x) => Some(*x),
+            None => None,
+        }
+    }
+}

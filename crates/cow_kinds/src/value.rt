@@ -4,10 +4,13 @@ ghost use Rattle.std.specs.Prelude.{true};
 ghost use Rattle.cow_kinds.specs.Values as values;
 
 use crate::element::Element;
-use crate::{array, slice};
+use crate::{array, dict, heap, set, slice};
 use cow_array::{Array, ArraySlice};
 use cow_cell::{Holder, Stock};
+use cow_dict::Dictionary;
+use cow_heap::Heap;
 use cow_model::{Kind, Literal, NoMemory, Refusal, Statement};
+use cow_set::Set;
 use cow_value::{Collection, Shown, Values};
 use std::alloc::Global;
 
@@ -16,6 +19,9 @@ use std::alloc::Global;
 pub enum Value<T: Element<Q>, Q: Stock> {
     Array(Array<T, Q>),
     Slice(ArraySlice<T, Q>),
+    Set(Set<T, Q>),
+    Dict(Dictionary<T, T, Q>),
+    Heap(Heap<T, Q>),
 }
 
 // The call of each kind.
@@ -24,6 +30,9 @@ macro_rules! each {
         match $value {
             Value::Array($it) => $call,
             Value::Slice($it) => $call,
+            Value::Set($it) => $call,
+            Value::Dict($it) => $call,
+            Value::Heap($it) => $call,
         }
     };
 }
@@ -34,6 +43,9 @@ macro_rules! alike {
         match $value {
             Value::Array($it) => Value::Array($call),
             Value::Slice($it) => Value::Slice($call),
+            Value::Set($it) => Value::Set($call),
+            Value::Dict($it) => Value::Dict($call),
+            Value::Heap($it) => Value::Heap($call),
         }
     };
 }
@@ -148,6 +160,9 @@ impl<T: Element<Q>, Q: Stock> Values<Q> for Value<T, Q> {
     ) -> Result<Value<T, Q>, NoMemory> {
         match kind {
             Kind::Array => Ok(Value::Array(array::make(alloc, atoms, h)?)),
+            Kind::Set => Ok(Value::Set(set::make(alloc, atoms, h)?)),
+            Kind::Dict => Ok(Value::Dict(dict::make(alloc, atoms, h)?)),
+            Kind::Heap => Ok(Value::Heap(heap::make(alloc, atoms, h)?)),
             _ => unreachable!(),
         }
     }

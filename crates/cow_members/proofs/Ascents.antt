@@ -42,7 +42,7 @@ differs a b d = on_side (same a b) (λ e. absurd (d (same-is a b e))) (λ e. e)
 passes_on : (x y z : Literal) → below x y ≡ true → below y z ≡ true → below x z ≡ true
 passes_on x y z p q = ap is_lt (literal_cmp_total.trans x y z (less-by (literal_cmp x y) p) (less-by (literal_cmp y z) q))
 
-unequal : (x y : Literal) → below x y ≡ true → same y x ≡ false
+pub unequal : (x y : Literal) → below x y ≡ true → same y x ≡ false
 unequal x y lt = on_side (same y x)
     (λ e. absurd (true≢false (sym lt ∙ subst (λ z. below x z ≡ false) (sym (same-is y x e)) (not-both (literal_cmp x x) (itself x)))))
     (λ e. e)
@@ -67,11 +67,11 @@ or-left a b e = ap (λ t. t || b) e
 pub member-same : (q a : Literal) (xs : List Literal) → same q a ≡ true → member q xs ≡ member a xs
 member-same q a xs e = ap (λ z. member z xs) (same-is q a e)
 
-apart : (x y : Literal) → below x y ≡ true → same x y ≡ false
+pub apart : (x y : Literal) → below x y ≡ true → same x y ≡ false
 apart x y lt = on_side (same x y) (λ e. absurd (true≢false (sym lt ∙ not-both (literal_cmp x y) e))) (λ e. e)
 
 -- what is above x isn't x
-above-lacks : (x : Literal) (xs : List Literal) → IsBelow x xs → member x xs ≡ false
+pub above-lacks : (x : Literal) (xs : List Literal) → IsBelow x xs → member x xs ≡ false
 above-lacks x [] b = refl
 above-lacks x (y ∷ ys) b = or-left (same x y) (member x ys) (apart x y b.0) ∙ above-lacks x ys b.1
 
@@ -101,7 +101,7 @@ below-in_order x a (z ∷ zs) lt b = on_side (below z a)
 goes-above : (a z : Literal) → same a z ≡ false → below z a ≡ false → below a z ≡ true
 goes-above a z d e = on_side (below a z) (λ f. f) (λ f. absurd (true≢false (sym (subst (λ y. same a y ≡ true) (tied a z f e) (itself a)) ∙ d)))
 
-or-no : (a b : Bool) → (a || b) ≡ false → (a ≡ false) × (b ≡ false)
+pub or-no : (a b : Bool) → (a || b) ≡ false → (a ≡ false) × (b ≡ false)
 or-no true b e = cc
 or-no false b e = (refl, e)
 
@@ -241,7 +241,7 @@ by-both true false f g = sym (f refl)
 by-both false true f g = g refl
 by-both false false f g = refl
 
-and-both : (a b : Bool) → (a && b) ≡ true → (a ≡ true) × (b ≡ true)
+pub and-both : (a b : Bool) → (a && b) ≡ true → (a ≡ true) × (b ≡ true)
 and-both true b e = (refl, e)
 and-both false b e = cc
 

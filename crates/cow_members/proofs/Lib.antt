@@ -1,3 +1,9 @@
 pub mod Ascents
+pub mod Costs
+pub mod Keys
 pub mod Lookups
+pub mod Listed
+pub mod Loops
+pub mod Operations
+pub mod Orders
 pub mod Sets

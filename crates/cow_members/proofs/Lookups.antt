@@ -27,12 +27,12 @@ module _ {T : Type 0} where
   get-last [] x = refl
   get-last (y ∷ xs) x = get-last xs x
 
-  get-same : (xs : List T) (i : ℕ) (x : T) → i < length xs → slice_get (set xs i x) i ≡ Some x
+  pub get-same : (xs : List T) (i : ℕ) (x : T) → i < length xs → slice_get (set xs i x) i ≡ Some x
   get-same [] i x l = absurd (omega arith)
   get-same (y ∷ xs) zero x l = refl
   get-same (y ∷ xs) (suc i) x l = get-same xs i x (omega arith)
 
-  get-other : (xs : List T) (i q : ℕ) (x : T) → q ≢ i → slice_get (set xs i x) q ≡ slice_get xs q
+  pub get-other : (xs : List T) (i q : ℕ) (x : T) → q ≢ i → slice_get (set xs i x) q ≡ slice_get xs q
   get-other [] i q x d = refl
   get-other (y ∷ xs) zero zero x d = absurd (d refl)
   get-other (y ∷ xs) zero (suc q) x d = refl

@@ -1,2 +1,4 @@
 pub mod Ascents
 pub mod Members
+pub mod Orders
+pub mod Sets

@@ -23,8 +23,8 @@ const MOST: usize = 1 << 31;
 /// memory is spoken of, it takes none.
 #[derive(Drop)]
 pub struct Members<K> {
-    keys: Row<K>,
-    table: Table,
+    pub(crate) keys: Row<K>,
+    pub(crate) table: Table,
 }
 
 impl<K> Model for Members<K> {
@@ -174,6 +174,8 @@ pub fn take<K: Key<Q>, Q: Stock>(members: &mut Members<K>, i: usize) -> K
 
 /// Room for `extra` more keys. A row without room at least doubles, and the table grows with it. All memory is taken
 /// before anything changes; where the row's is refused, only the table has more room. Moves the keys and copies none.
+#[cold]
+#[inline(never)]
 pub fn reserve<K: Key<Q>, Q: Stock>(
     members: &mut Members<K>,
     alloc: Global,

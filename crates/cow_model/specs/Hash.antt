@@ -6,7 +6,7 @@ use Rattle.cow_model.specs.declared.plain.Literal.TheVariants.{Int, Text}
 
 -- the low half of the two's complement of 64 bits, exclusive or the high half
 abbrev pub int_hash : ℤ → ℕ
-int_hash x = bit_xor (cast_unsigned w64 x % 2 ^ 32) (cast_unsigned w64 x / 2 ^ 32)
+int_hash x = bit_xor (cast_unsigned w64 x % 2 ^ 32) (cast_unsigned w64 x / 2 ^ 32 % 2 ^ 32)
 
 -- FNV-1a takes in one byte more
 abbrev pub fnv_step : ℕ → ℕ → ℕ

@@ -9,15 +9,13 @@
 //! an answer `NoMemory` leaves every value as it was and hands back what was given. The members are read by `contains`,
 //! in key order by `sorted`, or all at once, in no promised order, by `as_slice`.
 //!
-//! The invariant is that of its members: they are settled, distinct, and indexed by the table. `set` has the type and its
-//! calls, `algebra` what two sets do to each other, `storage` what the changes share.
+//! The invariant is that of its members: they are settled, distinct, and indexed by the table. What changes are made of
+//! stands in `cow_members`: `storage`, and `algebra` for what two sets do to each other.
 //!
 //! `new` and `sorted` may always answer want of memory, so a body that only does so meets the contract. A change of a
-//! storage that isn't known to be unshared may answer it too. No test shows yet that such calls succeed.
+//! storage that isn't known to be unshared may answer it too. The tests of hashed collections show that they succeed.
 #![tactic(auto)]
 
-mod algebra;
 mod set;
-mod storage;
 
 pub use set::Set;

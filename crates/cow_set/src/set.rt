@@ -6,12 +6,11 @@ ghost use Rattle.cow_model.specs.Lists.{Pays};
 ghost use Rattle.cow_model.specs.Members.{ascending, member, in_order, with_member, union, inter, minus, symdiff, subset, disjoint};
 ghost use Rattle.cow_model.specs.Purse.{Moves, less, more, unit_if};
 ghost use Rattle.cow_row.specs.Changes.{InPlace, HandsBack, Doubles, Returns, PaysWith};
-ghost use Rattle.cow_set.specs.Sets.{found, without, comes, goes, kept_by, lacking, ChangesTo, Untouched};
+ghost use Rattle.cow_members.specs.Sets.{CanPay, found, without, comes, goes, kept_by, lacking, ChangesTo, Untouched};
 
-use crate::{algebra, storage};
 use cow_cell::{Counted, Holder, Stock};
 use cow_item::{Equivalent, Item, Key};
-use cow_members::{Members, members};
+use cow_members::{Members, algebra, members, storage};
 use cow_model::NoMemory;
 use std::alloc::Global;
 use std::marker::Model;
@@ -131,6 +130,21 @@ impl<K: Key<Q>, Q: Stock> Set<K, Q> {
         members::contains(self.cell.get(), k)
     }
 
+    /// The member that is the same as `k`, or as the key that it stands for; `None` exactly where there is none. It is
+    /// `get` of Rust's `HashSet`.
+    #[tactic(auto, using(cow_members::proofs::Sets::set_steps))]
+    pub fn find<E: Equivalent<K, Q>>(&self, k: &E) -> Option<&K>
+        ensures value { option_map (λ x. K.plain x.now) result
+            ≡ found (E.sought k.now) self.now.value }
+        ensures distinct { Ascends self.now.value }
+    {
+        let members = self.cell.get();
+        match members::place_of(members, k.sought_hash(), k) {
+            Some(i) => Some(members.get(i)),
+            None => None,
+        }
+    }
+
     /// `k` is a member: Swift's `insert`. `true` where it wasn't one before. Else nothing changes, and `k` is ended.
     #[tactic(auto, using(cow_members::proofs::Sets::set_steps))]
     pub fn insert(&mut self, k: K, h: &mut Holder<Q>) -> Result<bool, (NoMemory, K)>
@@ -242,7 +256,7 @@ impl<K: Key<Q>, Q: Stock> Set<K, Q> {
     #[tactic(auto, using(cow_members::proofs::Sets::set_steps))]
     pub fn union(&mut self, other: &Set<K, Q>, h: &mut Holder<Q>) -> Result<(), NoMemory>
         requires growth { length self.old.value + length other.now.value < 2 ^ 31 }
-        requires spare { need (length self.old.value + length other.now.value) ≤ h.old.spare }
+        requires spare { CanPay self.old.value other.now.value h.old }
         ensures ok { OnOk result
             (ChangesTo (union in_order self.old.value other.now.value) self.old self.new) }
         ensures there { subset other.now.value self.old.value ≡ true
@@ -264,7 +278,7 @@ impl<K: Key<Q>, Q: Stock> Set<K, Q> {
     /// The members of both: Swift's `formIntersection`. One or two look-ups a member.
     #[tactic(auto, using(cow_members::proofs::Sets::set_steps))]
     pub fn intersection(&mut self, other: &Set<K, Q>, h: &mut Holder<Q>) -> Result<(), NoMemory>
-        requires spare { need (length self.old.value + length other.now.value) ≤ h.old.spare }
+        requires spare { CanPay self.old.value other.now.value h.old }
         ensures ok { OnOk result (ChangesTo (inter self.old.value other.now.value) self.old self.new) }
         ensures there { subset self.old.value other.now.value ≡ true
             → Untouched result self.old self.new h.old h.new }
@@ -278,7 +292,7 @@ impl<K: Key<Q>, Q: Stock> Set<K, Q> {
     /// The members that `other` hasn't: Swift's `subtract`. One or two look-ups a member.
     #[tactic(auto, using(cow_members::proofs::Sets::set_steps))]
     pub fn subtracting(&mut self, other: &Set<K, Q>, h: &mut Holder<Q>) -> Result<(), NoMemory>
-        requires spare { need (length self.old.value + length other.now.value) ≤ h.old.spare }
+        requires spare { CanPay self.old.value other.now.value h.old }
         ensures ok { OnOk result (ChangesTo (minus self.old.value other.now.value) self.old self.new) }
         ensures absent { disjoint self.old.value other.now.value ≡ true
             → Untouched result self.old self.new h.old h.new }
@@ -292,7 +306,7 @@ impl<K: Key<Q>, Q: Stock> Set<K, Q> {
     // The members that `other` has, where `keep` is true; those that it hasn't, where it is false.
     #[tactic(auto, using(cow_members::proofs::Sets::set_steps))]
     fn retain(&mut self, other: &Set<K, Q>, keep: bool, h: &mut Holder<Q>) -> Result<(), NoMemory>
-        requires spare { need (length self.old.value + length other.now.value) ≤ h.old.spare }
+        requires spare { CanPay self.old.value other.now.value h.old }
         ensures ok { OnOk result
             (ChangesTo (filter (kept_by keep other.now.value) self.old.value) self.old self.new) }
         ensures there { list_all (kept_by keep other.now.value) self.old.value ≡ true
@@ -318,7 +332,7 @@ impl<K: Key<Q>, Q: Stock> Set<K, Q> {
         h: &mut Holder<Q>,
     ) -> Result<(), NoMemory>
         requires growth { length self.old.value + length other.now.value < 2 ^ 31 }
-        requires spare { need (length self.old.value + length other.now.value) ≤ h.old.spare }
+        requires spare { CanPay self.old.value other.now.value h.old }
         ensures ok { OnOk result
             (ChangesTo (symdiff in_order self.old.value other.now.value) self.old self.new) }
         ensures absent { other.now.value ≡ [] → Untouched result self.old self.new h.old h.new }
@@ -335,6 +349,15 @@ impl<K: Key<Q>, Q: Stock> Set<K, Q> {
         storage::prepare(&mut self.cell, self.alloc, extra, h)?;
         algebra::toggle_all(self.cell.only(), others, h);
         Ok(())
+    }
+
+    /// How many members of `other` aren't members: by so many `union` grows it. One look-up a member of `other`.
+    #[tactic(auto, using(cow_members::proofs::Sets::set_steps))]
+    pub fn lacking(&self, other: &Set<K, Q>) -> usize
+        ensures value { result ≡ lacking self.now.value other.now.value }
+        ensures distinct { Ascends self.now.value × Ascends other.now.value }
+    {
+        algebra::missing(self.cell.get(), other.cell.get())
     }
 
     /// Whether each member is one of `other`: Swift's `isSubset(of:)`. At most one look-up a member, and none where

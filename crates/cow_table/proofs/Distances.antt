@@ -69,3 +69,6 @@ module _ (n a : ℕ) (in_a : a < n) where
 module _ (n a h : ℕ) (in_a : a < n) (in_h : h < n) where
   pub beyond : (i j : ℕ) → i < n → j < n → distance n a h < distance n a i → distance n h j < distance n h i → distance n a j < distance n a i
   beyond i j p q x y = omega (arith, distance_cases n a h in_a, distance_cases n a i in_a, distance_cases n a j in_a, distance_cases n h i in_h, distance_cases n h j in_h)
+
+  pub onward : (i : ℕ) → i < n → distance n a h < distance n a i → distance n a h + distance n h i ≡ distance n a i
+  onward i p x = omega (arith, distance_cases n a h in_a, distance_cases n a i in_a, distance_cases n h i in_h)

@@ -3,19 +3,20 @@ use Rattle.std.proofs.Common.{◌≡◌, ◌≢◌, ℕ, ◌-◌, ◌%◌, ◌<�
 use Rattle.std.proofs.lemmas.List.{length-set, get_or-set_same, get_or-set_other}
 use borrow.Author.Tests.{eqb-true, eq-eqb}
 use Rattle.cow_table.specs.Pairs.{Pair, hash_at, Loses, Keeps}
-use Rattle.cow_table.specs.Ring.{pairs_of, Apart, IsSize, IsRing, HasFree, IsNext, Settles, distance}
+use Rattle.cow_table.specs.Ring.{pairs_of, Apart, IsSize, IsRing, IsNear, HasFree, IsNext, Settles, distance}
 use Rattle.cow_table.proofs.Cells.{lookup-fill, count-fill, apart-fill, lookup-empty, count-empty, apart-empty, cell-lookup}
-use Rattle.cow_table.proofs.Places.{Reached}
+use Rattle.cow_table.proofs.Places.{Reached, Nearby, near-fill, near-empty}
 use Rattle.cow_table.proofs.Distances.{size_bounds}
-use Rattle.cow_table.proofs.Shifts.{Shifting, shift-start, shift-stays, shift-moves, shift-falls, shift-ends}
+use Rattle.cow_table.proofs.Shifts.{Shifting, shift-start, shift-stays, shift-moves, shift-falls, shift-ends, shift-ends-far}
 
 -- the same pairs as in `first`, in a ring with a hole
-pub record Shifted (n : ℕ) (first cs : List (Option Pair)) (start hole at : ℕ) : Type 0 where
+pub record Shifted (n : ℕ) (first cs : List (Option Pair)) (start hole at reach : ℕ) : Type 0 where
   pub size : IsSize n
   pub long : length cs ≡ n
   pub shifting : Shifting n (λ j. get_or cs j None) start hole at
   pub apart : Apart (pairs_of cs)
   pub keeps : Keeps (pairs_of first) (pairs_of cs)
+  pub near : IsNear reach cs
 
 put_back : (t : Bool) (h : ℕ) (r : Option ℕ) → (t ≡ true → r ≡ Some h) → cond t (Some h) (cond t None r) ≡ r
 put_back true h r e = sym (e refl)
@@ -42,24 +43,31 @@ module _ (cs : List (Option Pair)) (hole at : ℕ) (e : Pair) (in_hole : hole < 
     count = omega (arith, count-fill (set cs at None) hole e in_between still_clear, count-empty cs at e in_at was);
   }
 
+near-move : (cs : List (Option Pair)) (hole at reach : ℕ) (e : Pair) → hole < length cs → at < length cs → get_or cs at None ≡ Some e → distance (length cs) (e.hash % length cs) hole < distance (length cs) (e.hash % length cs) at → IsNear reach cs → IsNear reach (set (set cs at None) hole (Some e))
+near-move cs hole at reach e p q was nearer r =
+    let long = length-set cs at None in
+    near-fill (set cs at None) hole e (omega (arith, long)) reach
+    (subst (λ n. distance n (e.hash % n) hole ≤ reach) (sym long) (omega (arith, nearer, r.near at e q was))) (near-empty cs at reach q r)
+
 pub keeps-both : (xs ys zs : List Pair) → Keeps xs ys → Keeps ys zs → Keeps xs zs
 keeps-both xs ys zs a b = record { lookup = λ q. b.lookup q ∙ a.lookup q; count = b.count ∙ a.count }
 
 -- the start: the place is emptied
-pub shifted-start : (cs : List (Option Pair)) (start at : ℕ) (e : Pair) → IsRing cs → HasFree cs → start < length cs → get_or cs start None ≡ Some e → IsNext (length cs) start at
-    → Shifted (length cs) (set cs start None) (set cs start None) start start at
-shifted-start cs start at e r free p was follows = record {
+pub shifted-start : (cs : List (Option Pair)) (start at reach : ℕ) (e : Pair) → IsRing cs → HasFree cs → IsNear reach cs → start < length cs → get_or cs start None ≡ Some e → IsNext (length cs) start at
+    → Shifted (length cs) (set cs start None) (set cs start None) start start at reach
+shifted-start cs start at reach e r free near p was follows = record {
   size = r.size;
   long = length-set cs start None;
   shifting = shift-start (length cs) (omega (arith, size_bounds (length cs) r.size)) (λ j. get_or cs j None) (λ j. get_or (set cs start None) j None) start at free.at e p was
       (get_or-set_same cs start None None p) (λ j d. get_or-set_other cs start j None None d) r.placed.reached free.within free.free follows;
   apart = apart-empty cs start e r.apart p was;
   keeps = record { lookup = λ q. refl; count = refl };
+  near = near-empty cs start reach p near;
 }
 
-module _ (n : ℕ) (first cs after : List (Option Pair)) (start hole at next place_of : ℕ) (s : Shifted n first cs start hole at) (w : Settles cs hole at after place_of) (follows : IsNext n at next) where
+module _ (n : ℕ) (first cs after : List (Option Pair)) (start hole at next place_of reach : ℕ) (s : Shifted n first cs start hole at reach) (w : Settles cs hole at after place_of) (follows : IsNext n at next) where
   -- one step
-  pub shifted-more : Shifted n first after start place_of next
+  pub shifted-more : Shifted n first after start place_of next reach
   shifted-more = elim w.way [
     | inl a ↦
         let kept = subst (λ m. distance m (w.pair.hash % m) at ≤ distance m (w.pair.hash % m) hole) s.long a.home in
@@ -71,6 +79,7 @@ module _ (n : ℕ) (first cs after : List (Option Pair)) (start hole at next pla
               (shift-stays n (omega (arith, size_bounds n s.size)) (λ j. get_or cs j None) start hole at next s.shifting w.pair a.was follows kept));
           apart = subst (λ (x : List (Option Pair)). Apart (pairs_of x)) (sym a.cells) s.apart;
           keeps = subst (λ (x : List (Option Pair)). Keeps (pairs_of first) (pairs_of x)) (sym a.cells) s.keeps;
+          near = subst (λ (x : List (Option Pair)). IsNear reach x) (sym a.cells) s.near;
         }
     | inr a ↦
         let moves = subst (λ m. distance m (w.pair.hash % m) hole < distance m (w.pair.hash % m) at) s.long a.home in
@@ -93,6 +102,7 @@ module _ (n : ℕ) (first cs after : List (Option Pair)) (start hole at next pla
           apart = subst (λ (x : List (Option Pair)). Apart (pairs_of x)) (sym a.cells) (apart-move cs hole at w.pair in_hole in_at ne clear a.was s.apart);
           keeps = subst (λ (x : List (Option Pair)). Keeps (pairs_of first) (pairs_of x)) (sym a.cells)
               (keeps-both (pairs_of first) (pairs_of cs) (pairs_of (set (set cs at None) hole (Some w.pair))) s.keeps (keeps-move cs hole at w.pair in_hole in_at ne clear a.was s.apart));
+          near = subst (λ (x : List (Option Pair)). IsNear reach x) (sym a.cells) (near-move cs hole at reach w.pair in_hole in_at a.was a.home s.near);
         }
   ]
 
@@ -102,13 +112,23 @@ module _ (n : ℕ) (first cs after : List (Option Pair)) (start hole at next pla
     | inr a ↦ shift-falls n (omega (arith, size_bounds n s.size)) (λ j. get_or cs j None) start hole at next s.shifting w.pair a.was follows
   ]
 
--- the end: the place after the run is free
-pub shifted-ends : (n : ℕ) (first cs : List (Option Pair)) (start hole at : ℕ) → Shifted n first cs start hole at → get_or cs at None ≡ None → IsRing cs
-shifted-ends n first cs start hole at s free = record {
-  size = subst IsSize (sym s.long) s.size;
-  placed = record { reached = subst (λ m. Reached m (λ j. get_or cs j None)) (sym s.long) (shift-ends n (omega (arith, size_bounds n s.size)) (λ j. get_or cs j None) start hole at s.shifting free) };
-  apart = s.apart;
-}
+module _ (n : ℕ) (first cs : List (Option Pair)) (start hole at reach : ℕ) (s : Shifted n first cs start hole at reach) where
+  by_reached : Reached n (λ j. get_or cs j None) → IsRing cs
+  by_reached r = record {
+    size = subst IsSize (sym s.long) s.size;
+    placed = record { reached = subst (λ m. Reached m (λ j. get_or cs j None)) (sym s.long) r };
+    apart = s.apart;
+  }
+
+  -- the end: the place after the run is free
+  pub shifted-ends : get_or cs at None ≡ None → IsRing cs
+  shifted-ends free = by_reached (shift-ends n (omega (arith, size_bounds n s.size)) (λ j. get_or cs j None) start hole at s.shifting free)
+
+  -- or too far from the hole for a pair that it cuts off
+  pub shifted-ends-far : reach < distance n hole at → IsRing cs
+  shifted-ends-far far = by_reached
+      (shift-ends-far n (omega (arith, size_bounds n s.size)) (λ j. get_or cs j None) start hole at reach s.shifting
+      (subst (λ m. Nearby reach m (λ j. get_or cs j None)) s.long s.near.near) far)
 
 pub loses-by : (e : Pair) (before first after : List Pair) → Loses e.position before first → Keeps first after → Loses e.position before after
 loses-by e before first after l k = record { lookup = λ q. k.lookup q ∙ l.lookup q; count = omega (arith, l.count, k.count) }

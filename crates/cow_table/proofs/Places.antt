@@ -1,9 +1,9 @@
 -- What is reached by a search from its home, when one place is filled.
-use Rattle.std.proofs.Common.{◌≡◌, ◌≢◌, ℕ, ◌%◌, ◌<◌, List, length, get_or, set, Option, Some, None, sym, ap, subst, ◌∙◌, inl, inr}
+use Rattle.std.proofs.Common.{◌≡◌, ◌≢◌, ℕ, ◌%◌, ◌<◌, ◌≤◌, List, length, get_or, set, Option, Some, None, sym, ap, subst, ◌∙◌, arith, inl, inr}
 use Rattle.std.proofs.lemmas.List.{length-set, get_or-set_same, get_or-set_other}
 use Rattle.std.proofs.lemmas.Bool.{cases_eq}
 use Rattle.cow_table.specs.Pairs.{Pair, hash_at, Gains}
-use Rattle.cow_table.specs.Ring.{pairs_of, IsRing, distance}
+use Rattle.cow_table.specs.Ring.{pairs_of, IsRing, IsNear, StaysNear, distance}
 use Rattle.cow_table.proofs.Cells.{lookup-fill, count-fill, apart-fill}
 
 -- the cells are read by f: no free one lies between the home of a pair and its place
@@ -40,3 +40,34 @@ ring-fill cs at e r l free absent passed = record {
 
 pub gains-fill : (cs : List (Option Pair)) (at : ℕ) (e : Pair) → at < length cs → get_or cs at None ≡ None → hash_at (pairs_of cs) e.position ≡ None → Gains e (pairs_of cs) (pairs_of (set cs at (Some e)))
 gains-fill cs at e l free absent = record { lookup = λ q. lookup-fill cs at e q l free absent; count = count-fill cs at e l free }
+
+-- the cells are read by f: each pair stands at most `reach` places after its home
+abbrev pub Nearby : ℕ → (n : ℕ) → (ℕ → Option Pair) → Type 0
+Nearby reach n f = (i : ℕ) (e : Pair) → i < n → f i ≡ Some e → distance n (e.hash % n) i ≤ reach
+
+pub Nearby-fill : (reach n : ℕ) (f g : ℕ → Option Pair) (at : ℕ) (e : Pair) → g at ≡ Some e → ((j : ℕ) → j ≢ at → g j ≡ f j) → distance n (e.hash % n) at ≤ reach → Nearby reach n f → Nearby reach n g
+Nearby-fill reach n f g at e here else close r i x p s = elim (cases_eq i at) [
+  | inl a ↦
+      let v : Some x ≡ Some e = sym s ∙ ap g a ∙ here in
+      subst (λ y. distance n (x.hash % n) y ≤ reach) (sym a) (subst (λ (y : Pair). distance n (y.hash % n) at ≤ reach) (sym (Some-same x e v)) close)
+  | inr a ↦ r i x p (sym (else i a) ∙ s)
+]
+
+pub near-fill : (cs : List (Option Pair)) (at : ℕ) (e : Pair) → at < length cs → StaysNear (distance (length cs) (e.hash % length cs) at) cs (set cs at (Some e))
+near-fill cs at e l reach far r = record {
+  near = subst (λ n. Nearby reach n (λ j. get_or (set cs at (Some e)) j None)) (sym (length-set cs at (Some e)))
+      (Nearby-fill reach (length cs) (λ j. get_or cs j None) (λ j. get_or (set cs at (Some e)) j None) at e (get_or-set_same cs at (Some e) None l) (λ j d. get_or-set_other cs at j (Some e) None d) far r.near);
+}
+
+-- a pair less
+pub near-empty : (cs : List (Option Pair)) (at reach : ℕ) → at < length cs → IsNear reach cs → IsNear reach (set cs at None)
+near-empty cs at reach l r = record {
+  near = subst (λ n. Nearby reach n (λ j. get_or (set cs at None) j None)) (sym (length-set cs at None))
+      (λ i x p s. elim (cases_eq i at) [
+        | inl a ↦ absurd (let u = ap (λ j. get_or (set cs at None) j None) a in let v = get_or-set_same cs at None None l in cc)
+        | inr a ↦ r.near i x p (sym (get_or-set_other cs at i None None a) ∙ s)
+      ]);
+}
+
+pub near-wider : (reach wide : ℕ) (cs : List (Option Pair)) → reach ≤ wide → IsNear reach cs → IsNear wide cs
+near-wider reach wide cs l r = record { near = λ i e p s. omega (arith, r.near i e p s) }

@@ -6,11 +6,11 @@ use Rattle.std.proofs.lemmas.Bool.{cases_eq}
 use Rattle.std.proofs.lemmas.Bool.Decides.{nat_tests}
 use borrow.Author.Tests.{eqb-true, eqb-false}
 use Rattle.cow_table.specs.Pairs.{Pair, hash_at, Closes, Opens}
-use Rattle.cow_table.specs.Ring.{cells, pairs_of, limit, Apart, IsSize, IsRing, IsTable, relabelled, shut, opened}
+use Rattle.cow_table.specs.Ring.{cells, pairs_of, limit, Apart, IsSize, IsRing, IsNear, IsTable, relabelled, shut, opened}
 use Rattle.cow_table.specs.declared.ring.Bucket.{Bucket}
 use Rattle.cow_table.proofs.Cells.{not-first}
-use Rattle.cow_table.proofs.Places.{Reached, Some-same}
-use Rattle.cow_table.proofs.Renames.{Reached-like}
+use Rattle.cow_table.proofs.Places.{Reached, Nearby, Some-same}
+use Rattle.cow_table.proofs.Renames.{Reached-like, Nearby-like}
 
 -- ---- the loop
 -- of the cells `first`, those before k are mapped
@@ -92,6 +92,12 @@ module _ (f : ℕ → ℕ) where
     apart = subst Apart (sym (pairs-map (relabelled f) cs)) apart;
   }
 
+  near-map : (cs : List (Option Pair)) (reach : ℕ) → IsNear reach cs → IsNear reach (map (option_map (relabelled f)) cs)
+  near-map cs reach r = record {
+    near = subst (λ n. Nearby reach n (λ j. get_or (map (option_map (relabelled f)) cs) j None)) (sym (length-map cs (option_map (relabelled f))))
+        (Nearby-like reach (length cs) (λ j. get_or cs j None) (λ j. get_or (map (option_map (relabelled f)) cs) j None) (λ i e is. like (get_or cs i None) e (sym (get-map (relabelled f) cs i) ∙ is)) r.near);
+  }
+
 -- ---- closing and opening
 all-not : (i : ℕ) (es : List Pair) → hash_at es i ≡ None → Each (λ p. p ≢ i) es
 all-not i [] a = tt
@@ -150,5 +156,10 @@ module _ (cs after : List (Option Pair)) (i : ℕ) (r : IsRing cs) where
 pub write_whole : (n : ℕ) (bs cs : List Bucket) → length cs ≡ n → take n (cs ++ drop (length cs) bs) ≡ cs
 write_whole n bs cs e = take_at cs (drop (length cs) bs) n e
 
-pub table-map : (bs after : List Bucket) (room : ℕ) → IsTable bs room → IsRing (cells after) → length after ≡ length bs → length (pairs_of (cells after)) ≡ length (pairs_of (cells bs)) → IsTable after room
-table-map bs after room t r long count = record { ring = r; load = subst (λ n. length (pairs_of (cells after)) + room ≡ limit n) (sym long) (omega (arith, count, t.load)) }
+pub table-map : (f : ℕ → ℕ) (bs after : List Bucket) (room reach : ℕ) → IsTable bs room reach → IsRing (cells after) → length after ≡ length bs → length (pairs_of (cells after)) ≡ length (pairs_of (cells bs))
+    → cells after ≡ map (option_map (relabelled f)) (cells bs) → IsTable after room reach
+table-map f bs after room reach t r long count same = record {
+  ring = r;
+  load = subst (λ n. length (pairs_of (cells after)) + room ≡ limit n) (sym long) (omega (arith, count, t.load));
+  near = subst (IsNear reach) (sym same) (near-map f (cells bs) reach t.near);
+}

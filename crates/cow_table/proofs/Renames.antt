@@ -1,12 +1,12 @@
 -- Pairs get other positions, and stay where they are.
-use Rattle.std.proofs.Common.{◌≡◌, ℕ, ◌+◌, ◌%◌, ◌<◌, cond, eqb, Bool, true, false, List, length, get_or, set, Option, Some, None, refl, sym, ap, subst, ◌∙◌, arith, inl, inr}
+use Rattle.std.proofs.Common.{◌≡◌, ℕ, ◌+◌, ◌%◌, ◌<◌, ◌≤◌, cond, eqb, Bool, true, false, List, length, get_or, set, Option, Some, None, refl, sym, ap, subst, ◌∙◌, arith, inl, inr}
 use Rattle.std.proofs.lemmas.List.{length-set, get_or-set_same, get_or-set_other, set-set}
 use Rattle.std.proofs.lemmas.Bool.{cases_eq}
 use Rattle.cow_table.specs.Pairs.{Pair, hash_at, Renames}
-use Rattle.cow_table.specs.Ring.{cells, pairs_of, limit, Apart, IsRing, IsTable, distance}
+use Rattle.cow_table.specs.Ring.{cells, pairs_of, limit, Apart, IsRing, IsNear, IsTable, distance}
 use Rattle.cow_table.specs.declared.ring.Bucket.{Bucket}
 use Rattle.cow_table.proofs.Cells.{lookup-fill, count-fill, apart-fill, lookup-empty, count-empty, apart-empty}
-use Rattle.cow_table.proofs.Places.{Reached, Some-same}
+use Rattle.cow_table.proofs.Places.{Reached, Nearby, Some-same}
 use Rattle.cow_table.proofs.Probes.{length-cells, cells-set, seen-filled}
 
 -- f and g have pairs of the same hashes at the same places
@@ -14,6 +14,9 @@ pub Reached-like : (n : ℕ) (f g : ℕ → Option Pair) → ((i : ℕ) (e : Pai
 Reached-like n f g like empty r i j e p q was d free =
     let w = like i e was in
     r i j w.0 p q w.1 (subst (λ h. distance n (h % n) j < distance n (h % n) i) (sym w.2) d) (empty j free)
+
+pub Nearby-like : (reach n : ℕ) (f g : ℕ → Option Pair) → ((i : ℕ) (e : Pair) → g i ≡ Some e → (x : Pair) × (f i ≡ Some x) × (x.hash ≡ e.hash)) → Nearby reach n f → Nearby reach n g
+Nearby-like reach n f g like r i e p was = let w = like i e was in subst (λ h. distance n (h % n) i ≤ reach) w.2 (r i w.0 p w.1)
 
 module _ (cs : List (Option Pair)) (at h from to : ℕ) (l : at < length cs) (was : get_or cs at None ≡ Some (record { hash = h; position = from })) (distinct : Apart (pairs_of cs)) (absent : hash_at (pairs_of cs) to ≡ None) where
   l_between : at < length (set cs at None)
@@ -64,9 +67,15 @@ module _ (cs : List (Option Pair)) (at h from to : ℕ) (l : at < length cs) (wa
     apart = apart-rename;
   }
 
-pub table-rename : (bs : List Bucket) (room at h from to : ℕ) → IsTable bs room → at < length bs → get_or (cells bs) at None ≡ Some (record { hash = h; position = from }) → hash_at (pairs_of (cells bs)) to ≡ None → to < 4294967295
-    → IsTable (set bs at (record { hash = h; position = to })) room × Renames h from to (pairs_of (cells bs)) (pairs_of (cells (set bs at (record { hash = h; position = to }))))
-table-rename bs room at h from to t l was absent small =
+  pub near-rename : (reach : ℕ) → IsNear reach cs → IsNear reach (set cs at (Some (record { hash = h; position = to })))
+  near-rename reach r = record {
+    near = subst (λ n. Nearby reach n (λ j. get_or (set cs at (Some (record { hash = h; position = to }))) j None)) (sym (length-set cs at (Some (record { hash = h; position = to }))))
+        (Nearby-like reach (length cs) (λ j. get_or cs j None) (λ j. get_or (set cs at (Some (record { hash = h; position = to }))) j None) like r.near);
+  }
+
+pub table-rename : (bs : List Bucket) (room reach at h from to : ℕ) → IsTable bs room reach → at < length bs → get_or (cells bs) at None ≡ Some (record { hash = h; position = from }) → hash_at (pairs_of (cells bs)) to ≡ None → to < 4294967295
+    → IsTable (set bs at (record { hash = h; position = to })) room reach × Renames h from to (pairs_of (cells bs)) (pairs_of (cells (set bs at (record { hash = h; position = to }))))
+table-rename bs room reach at h from to t l was absent small =
     let inside : at < length (cells bs) = omega (arith, length-cells bs) in
     let same : cells (set bs at (record { hash = h; position = to })) ≡ set (cells bs) at (Some (record { hash = h; position = to }))
     = cells-set bs at (record { hash = h; position = to }) ∙ ap (λ (x : Option Pair). set (cells bs) at x) (seen-filled (record { hash = h; position = to }) (λ e. absurd (omega arith))) in
@@ -76,6 +85,7 @@ table-rename bs room at h from to t l was absent small =
       record {
         ring = subst IsRing (sym same) (ring-rename (cells bs) at h from to inside was t.ring.apart absent t.ring);
         load = subst (λ n. length (pairs_of (cells (set bs at (record { hash = h; position = to })))) + room ≡ limit n) (sym long) (omega (arith, all.count, t.load));
+        near = subst (IsNear reach) (sym same) (near-rename (cells bs) at h from to inside was t.ring.apart absent reach t.near);
       },
       all,
     )

@@ -4,9 +4,9 @@ use Rattle.std.proofs.lemmas.Bool.{cases_eq}
 use native.Mathlib.Decide.{dec_lt}
 use Rattle.cow_table.specs.Pairs.{Pair}
 use Rattle.cow_table.specs.Ring.{IsNext, distance}
-use Rattle.cow_table.proofs.Distances.{distance_self, distance_next, distance-below, same_place, beyond}
+use Rattle.cow_table.proofs.Distances.{distance_self, distance_next, distance-below, same_place, beyond, onward}
 use Rattle.cow_table.proofs.Probes.{Passed, passed-step, passed-more, passed-falls}
-use Rattle.cow_table.proofs.Places.{Reached, Some-same}
+use Rattle.cow_table.proofs.Places.{Reached, Nearby, Some-same}
 
 -- the cells are read by f: the hole is empty, each pair is reached but for the hole, the pairs that the hole cuts off stand from `at` on, and another place is free
 pub record Shifting (n : ℕ) (f : ℕ → Option Pair) (start hole at : ℕ) : Type 0 where
@@ -167,4 +167,13 @@ module _ (n : ℕ) (big : 2 ≤ n) where
         let far = beyond n (e.hash % n) hole (home_in e) s.in_hole i at p s.passed.within cut (omega arith) in
         let apart : at ≢ hole = λ v. let b = s.behind in let u = ap (λ y. distance n start y) v in omega arith in
         s.reached i at e p s.passed.within filled far apart free
+  ]
+
+  -- where no pair stands so far from its home as `at` from the hole, the hole cuts nothing off
+  pub shift-ends-far : (f : ℕ → Option Pair) (start hole at reach : ℕ) → Shifting n f start hole at → Nearby reach n f → reach < distance n hole at → Reached n f
+  shift-ends-far f start hole at reach s near far i j e p q filled d z = elim (cases_eq j hole) [
+    | inr w ↦ s.reached i j e p q filled d w z
+    | inl w ↦
+        let cut : distance n (e.hash % n) hole < distance n (e.hash % n) i = subst (λ y. distance n (e.hash % n) y < distance n (e.hash % n) i) w d in
+        omega (arith, s.ahead i e p filled cut, onward n (e.hash % n) hole (home_in e) s.in_hole i p cut, near i e p filled)
   ]

@@ -47,6 +47,14 @@ pub record IsPlaced (cs : List (Option Pair)) : Type 0 where
   pub reached : (i j : ℕ) (e : Pair) → i < length cs → j < length cs → place cs i ≡ Some e
       → distance (length cs) (e.hash % length cs) j < distance (length cs) (e.hash % length cs) i → place cs j ≢ None
 
+-- each pair stands at most `reach` places after its home
+pub record IsNear (reach : ℕ) (cs : List (Option Pair)) : Type 0 where
+  pub near : (i : ℕ) (e : Pair) → i < length cs → place cs i ≡ Some e → distance (length cs) (e.hash % length cs) i ≤ reach
+
+-- where pairs stood at most `reach` places after their homes, they still do, if `far` is no more than that
+abbrev pub StaysNear : (far : ℕ) → (before after : List (Option Pair)) → Type 0
+StaysNear far before after = (reach : ℕ) → far ≤ reach → IsNear reach before → IsNear reach after
+
 -- each of the n places from `start` on before `at` is filled
 abbrev pub FilledBefore : ℕ → List (Option Pair) → (start at : ℕ) → Type 0
 FilledBefore n cs start at = (j : ℕ) → j < n → distance n start j < distance n start at → place cs j ≢ None
@@ -81,10 +89,11 @@ pub record HasPair (cs : List (Option Pair)) (h p : ℕ) : Type 0 where
   pub within : at < length cs
   pub is : place cs at ≡ Some (record { hash = h; position = p })
 
--- the invariant of a table: `room` is what is left of the limit
-pub record IsTable (bs : List Bucket) (room : ℕ) : Type 0 where
+-- the invariant of a table: `room` is what is left of the limit, and `reach` how far pairs stand from their homes at most
+pub record IsTable (bs : List Bucket) (room reach : ℕ) : Type 0 where
   pub ring : IsRing (cells bs)
   pub load : length (pairs_of (cells bs)) + room ≡ limit (length bs)
+  pub near : IsNear reach (cells bs)
 
 -- the pair at `at` stays where it is, since its home lies after the hole
 pub record Stays (cs : List (Option Pair)) (hole at : ℕ) (after : List (Option Pair)) (place_of : ℕ) (e : Pair) : Type 0 where

@@ -10,11 +10,11 @@
 //! The invariant: the number of buckets is a power of two from 8 to 2^32, of which at most three quarters are
 //! filled; no free bucket lies between a pair and the home of its hash, its low bits; and positions are distinct.
 //! So a search that begins at the home and meets a free bucket has seen every pair of that hash. A removal keeps
-//! this by moving later pairs of the run back into the hole.
+//! this by moving later pairs of the run back into the hole. No pair stands further from its home than the
+//! table's reach, so a search ends there too, and the moves end where a bucket is further from the hole.
 //!
 //! `new`, `twin` and a `reserve` without room may always answer want of memory, so a body that only does so meets
-//! the contract. No test shows yet that they
-//! succeed.
+//! the contract. The tests of hashed collections show that they succeed.
 #![tactic(auto)]
 
 mod ring;

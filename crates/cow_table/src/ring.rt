@@ -2,7 +2,9 @@
 ghost use Rattle.std.specs.Prelude.{◌≡◌, ◌≢◌, ℕ, ◌+◌, ◌-◌, ◌*◌, ◌%◌, ◌<◌, ◌≤◌, ◌^◌, ◌↔◌, IsTrue, [], length, map, option_map, slice_set, Some, None};
 ghost use Rattle.cow_buf.specs.Places.{place, IsFilled};
 ghost use Rattle.cow_table.specs.Pairs.{Pair, hash_at, Gains, Loses, Keeps};
-ghost use Rattle.cow_table.specs.Ring.{seen, cells, pairs_of, limit, FilledBefore, PlacedBelow, IsNew, Empties, relabelled, shut, opened, Adds, IsSize, IsNext, IsRing, HasFree, HasPair, Settles, distance};
+ghost use Rattle.cow_table.specs.Ring.{seen, cells, pairs_of, limit, FilledBefore, PlacedBelow, IsNew, Empties, relabelled, shut, opened, Adds, IsSize, IsNext, IsRing, IsNear, StaysNear, HasFree, HasPair, Settles, distance};
+
+use std::cmp::max;
 
 /// A hash and a position, 8 bytes; nothing where the position is `FREE`.
 #[derive(Clone, Copy)]
@@ -93,8 +95,8 @@ fn vacant(buckets: &[Bucket], hash: u32) -> usize
     }
 }
 
-/// Adds a pair whose position isn't there, at the first free place from its home on.
-pub(crate) fn fill(buckets: &mut [Bucket], hash: u32, position: u32)
+/// Adds a pair whose position isn't there, at the first free place from its home on. Answers how far from it.
+pub(crate) fn fill(buckets: &mut [Bucket], hash: u32, position: u32) -> usize
     requires ring { IsRing (cells buckets.old) }
     requires free { HasFree (cells buckets.old) }
     requires small { position < 2 ^ 32 - 1 }
@@ -102,9 +104,12 @@ pub(crate) fn fill(buckets: &mut [Bucket], hash: u32, position: u32)
     ensures ring { IsRing (cells buckets.new) }
     ensures pairs { Gains (record { hash = hash; position = position })
         (pairs_of (cells buckets.old)) (pairs_of (cells buckets.new)) }
+    ensures near { StaysNear result (cells buckets.old) (cells buckets.new) }
 {
+    let count = buckets.len();
     let at = vacant(buckets, hash);
     buckets[at] = Bucket { hash, position };
+    steps(home(hash, count), at, count)
 }
 
 /// Moves the pair at `at` into the hole, unless its home lies after the hole. Answers where the hole is then.
@@ -130,14 +135,16 @@ fn settle(buckets: &mut [Bucket], hole: usize, at: usize) -> usize
 }
 
 /// Takes out the pair at `start`. Later pairs of its run move back into the hole, so that none is cut off from
-/// its home. One step for each bucket of the run.
-pub(crate) fn empty(buckets: &mut [Bucket], start: usize)
+/// its home. No pair stands more than `reach` buckets after its home, so it looks no further than that from the hole.
+pub(crate) fn empty(buckets: &mut [Bucket], start: usize, reach: usize)
     requires ring { IsRing (cells buckets.old) }
     requires within { start < length buckets.old }
     requires filled { IsFilled (cells buckets.old) start }
     requires free { HasFree (cells buckets.old) }
+    requires near { IsNear reach (cells buckets.old) }
     ensures ring { IsRing (cells buckets.new) }
     ensures pairs { Empties start (cells buckets.old) (cells buckets.new) }
+    ensures near { IsNear reach (cells buckets.new) }
 {
     let count = buckets.len();
     buckets[start] = Bucket {
@@ -148,7 +155,7 @@ pub(crate) fn empty(buckets: &mut [Bucket], start: usize)
     let mut at = next(start, count);
     'shift: loop {
         let bucket = buckets[at];
-        if bucket.position == FREE {
+        if bucket.position == FREE || reach < steps(hole, at, count) {
             return;
         }
         hole = settle(buckets, hole, at);
@@ -178,34 +185,40 @@ pub(crate) fn grown(count: usize, wanted: usize) -> usize
     size
 }
 
-/// Adds what a bucket of another ring holds.
-fn take_over(bucket: Bucket, to: &mut [Bucket])
+/// Adds what a bucket of another ring holds. Answers how far from its home.
+fn take_over(bucket: Bucket, to: &mut [Bucket]) -> usize
     requires ring { IsRing (cells to.old) }
     requires free { HasFree (cells to.old) }
     requires absent { IsNew (seen bucket) (pairs_of (cells to.old)) }
     ensures ring { IsRing (cells to.new) }
     ensures pairs { Adds (seen bucket) (pairs_of (cells to.old)) (pairs_of (cells to.new)) }
+    ensures near { StaysNear result (cells to.old) (cells to.new) }
 {
-    if bucket.position != FREE {
-        fill(to, bucket.hash, bucket.position);
+    if bucket.position == FREE {
+        0
+    } else {
+        fill(to, bucket.hash, bucket.position)
     }
 }
 
 /// Adds the pairs of one ring to another, which has none and is wide enough. One pass over the first, from its
-/// end on.
-pub(crate) fn refill(from: &[Bucket], to: &mut [Bucket])
+/// end on. Answers how far a pair stands from its home at most.
+pub(crate) fn refill(from: &[Bucket], to: &mut [Bucket]) -> usize
     requires from { IsRing (cells from.now) }
     requires to { IsRing (cells to.old) }
     requires empty { pairs_of (cells to.old) ≡ [] }
     requires room { length (pairs_of (cells from.now)) < length to.old }
     ensures ring { IsRing (cells to.new) }
     ensures pairs { Keeps (pairs_of (cells from.now)) (pairs_of (cells to.new)) }
+    ensures near { IsNear result (cells to.new) }
 {
     let mut i = from.len();
+    let mut reach = 0;
     'refill: while i > 0 {
         i -= 1;
-        take_over(from[i], to);
+        reach = max(reach, take_over(from[i], to));
     }
+    reach
 }
 
 /// The bucket with a position above `i` one less.

@@ -2,7 +2,7 @@
 ghost use Rattle.std.specs.Prelude.{◌≡◌, ◌≢◌, ℕ, ◌+◌, ◌-◌, ◌*◌, ◌%◌, ◌<◌, ◌≤◌, ◌^◌, ◌↔◌, IsTrue, [], length, map, slice_set, Some, None, option_map, IfOk, OnOk, OnErr, IfSome, IfNone, IsOk};
 ghost use Rattle.cow_buf.specs.Places.{place};
 ghost use Rattle.cow_table.specs.Pairs.{Pair, hash_at, Gains, Loses, Keeps, Renames, Closes, Opens, Below, Indexes, HasKey, Lacks};
-ghost use Rattle.cow_table.specs.Ring.{seen, cells, IsSize, IsRing, HasFree, pairs_of};
+ghost use Rattle.cow_table.specs.Ring.{seen, cells, IsSize, IsRing, IsNear, HasFree, pairs_of};
 
 use crate::ring::{
     Bucket, FREE, close_all, empty, fill, grown, home, most, next, open_all, refill, seek,
@@ -12,18 +12,21 @@ use cow_cell::Stock;
 use cow_item::{Equivalent, Key};
 use cow_model::NoMemory;
 use std::alloc::Global;
+use std::cmp::max;
 use std::marker::Model;
 
 /// Pairs of a hash and a position in a ring of buckets, found by the hash: linear probing with moves back into a
 /// hole, in place of marks of what was removed.
 ///
 /// A call on one pair takes a step for each bucket from the pair's home to the next free one: few, where hashes
-/// differ in their low bits, since a quarter of the buckets is free, and all pairs at worst. Only `new`, `twin`
-/// and a `reserve` without room take memory.
+/// differ in their low bits, since a quarter of the buckets is free, and all pairs at worst. `reach` is how far from
+/// its home a pair was put at most since the buckets were made: a look-up takes no more steps, and a removal looks no
+/// further from the hole. Only `new`, `twin` and a `reserve` without room take memory.
 #[derive(Drop)]
 pub struct Table {
     buckets: Vec<Bucket>,
     room: usize,
+    reach: usize,
     alloc: Global,
 }
 
@@ -35,7 +38,7 @@ impl Model for Table {
 
     ghost view = { λ t. record { pairs = pairs_of (cells t.buckets.items); room = t.room } };
 
-    ghost invariant = { λ t. IsTable t.buckets.items t.room };
+    ghost invariant = { λ t. IsTable t.buckets.items t.room t.reach };
 }
 
 /// Whether the key at the bucket's position is `key`. It is looked at only where the hashes are equal.
@@ -53,15 +56,17 @@ fn fits<K: Key<Q>, E: Equivalent<K, Q>, Q: Stock>(
     bucket.hash == hash && key.stands_for(keys.at(bucket.position as usize))
 }
 
-/// The position of the pair whose key is `key`, in buckets.
+/// The position of the pair whose key is `key`, in buckets where no pair stands more than `reach` after its home.
 fn search<K: Key<Q>, E: Equivalent<K, Q>, Q: Stock>(
     buckets: &[Bucket],
+    reach: usize,
     hash: u32,
     keys: &Buf<K>,
     key: &E,
 ) -> Option<usize>
     requires ring { IsRing (cells buckets.now) }
     requires free { HasFree (cells buckets.now) }
+    requires near { IsNear reach (cells buckets.now) }
     requires hash { hash ≡ K.hash_of (E.sought key.now) }
     requires keys { Indexes K.plain K.hash_of keys.now (pairs_of (cells buckets.now)) }
     ensures found { IfSome result (HasKey K.plain keys.now (E.sought key.now)) }
@@ -72,6 +77,7 @@ fn search<K: Key<Q>, E: Equivalent<K, Q>, Q: Stock>(
     let count = buckets.len();
     let start = home(hash, count);
     let mut at = start;
+    let mut left = reach;
     'probe: loop {
         let bucket = buckets[at];
         if bucket.position == FREE {
@@ -80,6 +86,10 @@ fn search<K: Key<Q>, E: Equivalent<K, Q>, Q: Stock>(
         if fits(bucket, hash, keys, key) {
             return Some(bucket.position as usize);
         }
+        if left == 0 {
+            return None;
+        }
+        left -= 1;
         at = next(at, count);
     }
 }
@@ -100,6 +110,7 @@ impl Table {
             Ok(buckets) => Ok(Table {
                 buckets,
                 room: 6,
+                reach: 0,
                 alloc,
             }),
             Err(_) => Err(NoMemory),
@@ -120,7 +131,7 @@ impl Table {
         ensures there { IfSome result (λ p. hash_at self.now.pairs p ≡ Some hash) }
         ensures absent { IfNone result (Lacks K.plain keys.now self.now.pairs (E.sought key.now)) }
     {
-        search(self.buckets.as_slice(), hash, keys, key)
+        search(self.buckets.as_slice(), self.reach, hash, keys, key)
     }
 
     /// Room for `n` more pairs. Where there is none, the buckets are doubled until there is, in one step for each
@@ -156,10 +167,11 @@ impl Table {
             count,
         ) {
             Ok(mut buckets) => {
-                refill(self.buckets.as_slice(), buckets.as_mut_slice());
+                let reach = refill(self.buckets.as_slice(), buckets.as_mut_slice());
                 Ok(Table {
                     buckets,
                     room: most(count) - held,
+                    reach,
                     alloc: self.alloc,
                 })
             }
@@ -176,18 +188,20 @@ impl Table {
             self.old.pairs self.new.pairs }
         ensures room { self.new.room + 1 ≡ self.old.room }
     {
-        fill(self.buckets.as_mut_slice(), hash, position as u32);
+        let far = fill(self.buckets.as_mut_slice(), hash, position as u32);
+        self.reach = max(self.reach, far);
         self.room -= 1;
     }
 
-    /// Takes out a pair. Later pairs of its run move back into the hole. One step for each bucket of the run.
+    /// Takes out a pair. Later pairs of its run move back into the hole. One step for each bucket of the run, up to
+    /// the first that is further than `reach` from the hole.
     pub fn remove_at(&mut self, hash: u32, position: usize)
         requires { hash_at self.old.pairs position ≡ Some hash }
         ensures pairs { Loses position self.old.pairs self.new.pairs }
         ensures room { self.new.room ≡ self.old.room + 1 }
     {
         let at = seek(self.buckets.as_slice(), hash, position);
-        empty(self.buckets.as_mut_slice(), at);
+        empty(self.buckets.as_mut_slice(), at, self.reach);
         self.room += 1;
     }
 
@@ -215,6 +229,7 @@ impl Table {
             Ok(buckets) => Ok(Table {
                 buckets,
                 room: self.room,
+                reach: self.reach,
                 alloc: self.alloc,
             }),
             Err(_) => Err(NoMemory),

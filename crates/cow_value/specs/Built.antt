@@ -9,29 +9,19 @@ use Rattle.cow_model.specs.declared.statement.Statement.TheOpen.{Statement-F}
 -- the kinds
 abbrev pub is_built_kind : Kind → Bool
 is_built_kind kind.Array = true
+is_built_kind kind.Set = true
+is_built_kind kind.Dict = true
+is_built_kind kind.Heap = true
 is_built_kind k = false
 
 -- the line of a statement that isn't built: its word isn't, or in a `let` its kind
 abbrev pub unbuilt_at : Layer → Option ℕ
 unbuilt_at (Statement-F.Let l n k atoms) = if is_built_kind k then None else Some l
 unbuilt_at (Statement-F.Prepend l n a) = Some l
-unbuilt_at (Statement-F.Update l n a) = Some l
 unbuilt_at (Statement-F.RemoveAt l n i) = Some l
 unbuilt_at (Statement-F.At l n i) = Some l
-unbuilt_at (Statement-F.Has l n a) = Some l
 unbuilt_at (Statement-F.Place l n a) = Some l
-unbuilt_at (Statement-F.Peek l n side) = Some l
-unbuilt_at (Statement-F.Replace l n side a) = Some l
 unbuilt_at (Statement-F.Rotate l n c) = Some l
-unbuilt_at (Statement-F.Union l n m) = Some l
-unbuilt_at (Statement-F.Inter l n m) = Some l
-unbuilt_at (Statement-F.Minus l n m) = Some l
-unbuilt_at (Statement-F.SymDiff l n m) = Some l
-unbuilt_at (Statement-F.Subset l n m) = Some l
-unbuilt_at (Statement-F.Disjoint l n m) = Some l
-unbuilt_at (Statement-F.Put l n k v) = Some l
-unbuilt_at (Statement-F.Merge l n m take) = Some l
-unbuilt_at (Statement-F.Within l n m) = Some l
 unbuilt_at (Statement-F.Lazy l n i verb) = Some l
 unbuilt_at s = None
 

@@ -48,25 +48,15 @@ pub fn unbuilt_line(statement: &Statement) -> Option<u64>
     ensures none { result ≡ None → spec.is_built (out-Statement statement.now) ≡ true }
 {
     match statement {
-        Statement::Let { line, kind, .. } => (*kind != Kind::Array).then_some(*line),
+        Statement::Let { line, kind, .. } => match kind {
+            Kind::Array | Kind::Set | Kind::Dict | Kind::Heap => None,
+            _ => Some(*line),
+        },
         Statement::Prepend { line, .. }
-        | Statement::Update { line, .. }
         | Statement::RemoveAt { line, .. }
         | Statement::At { line, .. }
-        | Statement::Has { line, .. }
         | Statement::Place { line, .. }
-        | Statement::Peek { line, .. }
-        | Statement::Replace { line, .. }
         | Statement::Rotate { line, .. }
-        | Statement::Union { line, .. }
-        | Statement::Inter { line, .. }
-        | Statement::Minus { line, .. }
-        | Statement::SymDiff { line, .. }
-        | Statement::Subset { line, .. }
-        | Statement::Disjoint { line, .. }
-        | Statement::Put { line, .. }
-        | Statement::Merge { line, .. }
-        | Statement::Within { line, .. }
         | Statement::Lazy { line, .. } => Some(*line),
         _ => None,
     }

@@ -65,7 +65,7 @@ fn put_fork(numbers: &mut Numbers, script: &mut Vec<u8>) -> Result<(), AllocErro
 
 /// The script of a seed.
 fn script_of(alloc: Global, seed: u64) -> Result<Vec<u8>, AllocError> {
-    let mut numbers = Numbers { last: seed };
+    let mut numbers = Numbers::of(seed);
     let mut script = Vec::new(alloc);
     numbers.put(FIRST, &mut script)?;
     for _ in 0..TURNS {

@@ -1,8 +1,8 @@
 //! Random lines of scripts, over the statements that are built.
 use std::alloc::AllocError;
 
-/// The forms of a line: N is a name, A an atom, L some atoms, P a position, and E an end.
-const FORMS: &[&str] = &[
+/// The forms of a line: N is a name, A an atom, K a key, L some atoms, P a position, and E an end.
+const LISTS: &[&str] = &[
     "let N = array L",
     "let N = array L A A",
     "let N = N",
@@ -10,6 +10,7 @@ const FORMS: &[&str] = &[
     "let N = N",
     "let N = slice N P P",
     "let N = slice N P P",
+    "let N = set K",
     "drop N",
     "show N",
     "show N",
@@ -34,21 +35,140 @@ const FORMS: &[&str] = &[
     "equal N N",
 ];
 
+const SETS: &[&str] = &[
+    "let N = set K K K L",
+    "let N = set K K",
+    "let N = set",
+    "let N = N",
+    "let N = N",
+    "let N = heap K K",
+    "drop N",
+    "show N",
+    "show N",
+    "count N",
+    "insert N K",
+    "insert N K",
+    "insert N K",
+    "update N K",
+    "update N K",
+    "remove N K",
+    "remove N K",
+    "has N K",
+    "has N K",
+    "union N N",
+    "union N N",
+    "inter N N",
+    "minus N N",
+    "symdiff N N",
+    "symdiff N N",
+    "subset N N",
+    "disjoint N N",
+    "equal N N",
+    "append N A",
+    "clear N",
+];
+
+const DICTS: &[&str] = &[
+    "let N = dict K A K A K A",
+    "let N = dict K A K A",
+    "let N = dict",
+    "let N = N",
+    "let N = N",
+    "let N = set K K K",
+    "let N = set K K K",
+    "drop N",
+    "show N",
+    "show N",
+    "count N",
+    "put N K A",
+    "put N K A",
+    "put N K A",
+    "get N K",
+    "get N K",
+    "remove N K",
+    "remove N K",
+    "has N K",
+    "merge N N keep",
+    "merge N N keep",
+    "merge N N take",
+    "merge N N take",
+    "within N N",
+    "within N N",
+    "equal N N",
+    "union N N",
+    "insert N K",
+    "append N A",
+];
+
+const HEAPS: &[&str] = &[
+    "let N = heap K K K L",
+    "let N = heap L A A",
+    "let N = heap",
+    "let N = N",
+    "let N = N",
+    "let N = array L",
+    "drop N",
+    "show N",
+    "show N",
+    "count N",
+    "insert N K",
+    "insert N K",
+    "insert N A",
+    "insert N A",
+    "pop N min",
+    "pop N max",
+    "pop N E",
+    "peek N min",
+    "peek N max",
+    "peek N E",
+    "replace N min A",
+    "replace N max A",
+    "replace N E K",
+    "equal N N",
+    "append N A",
+];
+
+/// The forms of the kinds that are built. A script has those of one.
+const FORMS: &[&[&str]] = &[LISTS, SETS, DICTS, HEAPS];
+
 const NAMES: &[&str] = &["a", "b", "c", "d"];
 
 const ATOMS: &[&str] = &["0", "1", "2", "3", "-7", "\"\"", "\"x\"", "\"a \\\"b\\\"\""];
+
+/// Of one home, and the last three of one hash with the first.
+const KEYS: &[&str] = &[
+    "0",
+    "8",
+    "16",
+    "64",
+    "-8",
+    "\"x\"",
+    "4294967297",
+    "8589934594",
+    "12884901891",
+];
 
 const PLACES: &[&str] = &["0", "0", "1", "1", "2", "3", "5", "-1"];
 
 const ENDS: &[&str] = &["first", "first", "last", "last", "min"];
 
-/// A sequence of numbers that its first number tells.
+/// A sequence of numbers that its first number tells, and the forms of its lines.
 #[derive(Drop)]
 pub struct Numbers {
-    pub last: u64,
+    last: u64,
+    forms: &'static [&'static str],
 }
 
 impl Numbers {
+    /// The sequence of a seed, which tells the kind of its lines.
+    pub fn of(seed: u64) -> Numbers {
+        let forms = FORMS
+            .get(seed as usize % FORMS.len())
+            .copied()
+            .unwrap_or(LISTS);
+        Numbers { last: seed, forms }
+    }
+
     /// The next number, below 2^31.
     pub fn next(&mut self) -> u64 {
         self.last = self
@@ -79,6 +199,7 @@ impl Numbers {
             match byte {
                 b'N' => script.extend_from_slice(self.one_of(NAMES).as_bytes())?,
                 b'A' => script.extend_from_slice(self.one_of(ATOMS).as_bytes())?,
+                b'K' => script.extend_from_slice(self.one_of(KEYS).as_bytes())?,
                 b'P' => script.extend_from_slice(self.one_of(PLACES).as_bytes())?,
                 b'E' => script.extend_from_slice(self.one_of(ENDS).as_bytes())?,
                 b'L' => self.atoms(script)?,
@@ -90,7 +211,7 @@ impl Numbers {
 
     /// A line of a form that is built.
     pub fn line(&mut self, script: &mut Vec<u8>) -> Result<(), AllocError> {
-        let form = self.one_of(FORMS);
+        let form = self.one_of(self.forms);
         self.put(form, script)?;
         script.push(b'\n')?;
         Ok(())

@@ -193,6 +193,62 @@ const ROWS: &[(&[&str], &str, &str, u8)] = &[
         "2 / [3, 9] from 2 / [3, 9] / [1, 2, 3, 4]",
         0,
     ),
+    // set_one_home: all four have one home bucket of 8
+    (
+        CENSUS,
+        "let s = set 1 9 17 / insert s 9 / insert s 25 / remove s 9 / has s 25 / has s 17 / show s",
+        "false / true / 9 / true / true / [1, 17, 25] / copied 5 of at most 8",
+        0,
+    ),
+    // set_algebra
+    (
+        CENSUS,
+        "let s = set 1 2 3 / let u = set 3 4 / union s u / show s / inter s u / show s / let v = set 4 / minus s v / show s / symdiff s u / show s / update s 4 / update s 8 / subset v s / disjoint u v",
+        "[1, 2, 3, 4] / [3, 4] / [3] / [4] / 4 / nil / true / false / copied 10 of at most 12",
+        0,
+    ),
+    // a set that a statement leaves the same still shares its storage, and copies nothing
+    (
+        CENSUS,
+        "let s = set 1 2 3 / let t = s / union s t / inter s t / remove s 4 / show t",
+        "nil / [1, 2, 3] / copied 3 of at most 16",
+        0,
+    ),
+    // dict_put
+    (
+        CENSUS,
+        "let d = dict 1 10 / put d 1 2 / put d 3 4 / show d / let e = dict / show e",
+        "10 / nil / [1: 2, 3: 4] / [:] / copied 6 of at most 6",
+        0,
+    ),
+    // stock
+    (
+        CENSUS,
+        "let stock = dict \"nut\" 40 \"bolt\" 12 / let before = stock / put stock \"bolt\" 9 / put stock \"gear\" 3 / show before / show stock / equal before stock",
+        "12 / nil / [\"bolt\": 12, \"nut\": 40] / [\"bolt\": 9, \"gear\": 3, \"nut\": 40] / false / copied 12 of at most 12",
+        0,
+    ),
+    // dict_merge
+    (
+        RUN,
+        "let d = dict 1 10 2 20 / let e = dict 2 21 3 30 / let f = d / merge d e keep / show d / merge f e take / show f / let w = set 1 3 / within d w / show d / remove d 3",
+        "[1: 10, 2: 20, 3: 30] / [1: 10, 2: 21, 3: 30] / [1: 10, 3: 30] / 30",
+        0,
+    ),
+    // heap_ends
+    (
+        CENSUS,
+        "let h = heap 2 1 2 3 / pop h max / pop h min / pop h max / pop h min / pop h max",
+        "3 / 1 / 2 / 2 / nil / copied 4 of at most 4",
+        0,
+    ),
+    // heap_calls
+    (
+        CENSUS,
+        "let h = heap 4 1 3 / insert h 9 / peek h max / replace h min 7 / replace h max 0 / show h",
+        "9 / 1 / 9 / [0, 3, 4, 7] / copied 6 of at most 6",
+        0,
+    ),
     // faults, each with its line
     (RUN, "let array = array", "line 1: bad name", 3),
     (RUN, "let a = array 01", "line 1: bad atom", 3),
@@ -208,15 +264,15 @@ const ROWS: &[(&[&str], &str, &str, u8)] = &[
         0,
     ),
     // lines that aren't built
-    (RUN, "let s = set 1", "line 1: not built", 9),
+    (RUN, "let s = tset 1", "line 1: not built", 9),
     (
         CENSUS,
-        "let a = array 1 / show a / peek a last / rotate a 1",
+        "let a = array 1 / show a / at a 0 / rotate a 1",
         "line 3: not built",
         9,
     ),
     // a fault comes before a line that isn't built
-    (RUN, "let s = set 1 / show", "line 2: bad word", 3),
+    (RUN, "let s = tset 1 / show", "line 2: bad word", 3),
 ];
 
 const RUN: &[&str] = &["run"];
@@ -312,7 +368,7 @@ const SCRIPTS: [&[u8]; 48] = [
     b"let arrays = array\nshow arrays",
     b"let a = array array\n",
     b"let a = arrays\n",
-    b"let a = set 1\n",
+    b"let a = tset 1\n",
     b"let a = slice b 0 1\n",
     b"let a array 1\n",
     b"let a == array 1\n",

@@ -14,7 +14,7 @@ const LINES: u64 = 24;
 
 /// The script of a seed.
 fn script_of(alloc: Global, seed: u64) -> Result<Vec<u8>, AllocError> {
-    let mut numbers = Numbers { last: seed };
+    let mut numbers = Numbers::of(seed);
     let mut script = Vec::new(alloc);
     for _ in 0..LINES {
         numbers.line(&mut script)?;

@@ -1,7 +1,7 @@
 use Rattle.std.proofs.Common.{◌≡◌, map, take, true, false, rules, refl, sym, ap, ◌∙◌, arith}
 use Rattle.std.specs.List.{list_all}
 use Rattle.std.proofs.lemmas.List.{take_all}
-use Rattle.cow_set.proofs.Loops.{all-more, all-not}
+use Rattle.cow_members.proofs.Loops.{all-more, all-not}
 use Rattle.cow_dict.proofs.Calls.{keys-map}
 use Rattle.cow_dict.proofs.Questions.{all-ascending}
 use Rattle.cow_dict.proofs.algebra.all_stay.Goals as goal

@@ -4,8 +4,8 @@ use Rattle.std.proofs.lemmas.List.Sums.{sum_by-cons}
 use Rattle.std.proofs.lemmas.List.Sorted.{sum_by-IsPermutation}
 use Rattle.cow_model.specs.Pairs.{value_in}
 use Rattle.cow_model.specs.Purse.{Purse}
-use Rattle.cow_set.proofs.Keys.{plain-at}
-use Rattle.cow_set.proofs.Loops.{front-kept}
+use Rattle.cow_members.proofs.Keys.{plain-at}
+use Rattle.cow_members.proofs.Loops.{front-kept}
 use Rattle.cow_dict.specs.Dictionaries.{units}
 use Rattle.cow_dict.specs.Storages.{listed, pair_of}
 use Rattle.cow_dict.proofs.Calls.{distinct}

@@ -5,9 +5,9 @@ use Rattle.std.proofs.lemmas.List.Sums.{count_by-le-length}
 use Rattle.std.proofs.lemmas.Option.{slice_get_within}
 use Rattle.cow_model.specs.Members.{last, with_member, ascending, member}
 use Rattle.cow_model.specs.Pairs.{value_in}
-use Rattle.cow_set.proofs.Loops.{union-room, union-turn}
-use Rattle.cow_set.proofs.Operations.{lacking-ascending, union-most}
-use Rattle.cow_set.specs.Sets.{lacking}
+use Rattle.cow_members.proofs.Loops.{union-room, union-turn}
+use Rattle.cow_members.proofs.Operations.{lacking-ascending, union-most}
+use Rattle.cow_members.specs.Sets.{lacking}
 use Rattle.cow_dict.specs.Dictionaries.{merged, takes, units}
 use Rattle.cow_dict.specs.Storages.{listed, pair_of, keys, by_key}
 use Rattle.cow_dict.proofs.Calls.{distinct, keys-map, listed-at}

@@ -4,9 +4,9 @@ use Rattle.cow_model.proofs.ListSteps.{unit_if-le}
 use Rattle.cow_members.specs.Members.{MembersView}
 use Rattle.cow_model.specs.Members.{member, ascending}
 use Rattle.cow_model.specs.Purse.{unit_if}
-use Rattle.cow_set.proofs.Loops.{lacking-turn}
-use Rattle.cow_set.proofs.Operations.{lacking-ascending}
-use Rattle.cow_set.specs.Sets.{lacking}
+use Rattle.cow_members.proofs.Loops.{lacking-turn}
+use Rattle.cow_members.proofs.Operations.{lacking-ascending}
+use Rattle.cow_members.specs.Sets.{lacking}
 use Rattle.cow_dict.specs.Storages.{by_key, keys, listed}
 use Rattle.cow_dict.proofs.Calls.{keys-map}
 use Rattle.cow_dict.proofs.algebra.missing.Goals as goal

@@ -1,5 +1,5 @@
 use Rattle.std.proofs.Common.{◌≡◌, ◌≤◌, map, take}
-use Rattle.cow_set.specs.Sets.{lacking}
+use Rattle.cow_members.specs.Sets.{lacking}
 use Rattle.cow_dict.proofs.algebra.missing.Given as goal
 
 abbrev pub invariant-loop-i : goal.invariant-loop-i

@@ -6,7 +6,7 @@ use Rattle.cow_members.specs.Members.{listed as keys_of}
 use Rattle.cow_model.specs.Members.{member}
 use Rattle.cow_model.specs.Order.{same}
 use Rattle.cow_model.specs.Pairs.{value_in}
-use Rattle.cow_set.proofs.Loops.{apart-front, fronts-less, fronts-at, some-at, front-more}
+use Rattle.cow_members.proofs.Loops.{apart-front, fronts-less, fronts-at, some-at, front-more}
 use Rattle.cow_dict.specs.Dictionaries.{only_if}
 use Rattle.cow_dict.specs.Storages.{listed}
 use Rattle.cow_dict.proofs.Calls.{distinct}

@@ -8,8 +8,8 @@ use Rattle.cow_model.specs.Members.{ascending, subset}
 use Rattle.cow_model.specs.Pairs.{in_order, merge}
 use Rattle.cow_model.specs.Purse.{Moves}
 use Rattle.cow_model.specs.declared.value.Pair.{Pair}
-use Rattle.cow_set.proofs.Operations.{lacking-ascending, none-missing}
-use Rattle.cow_set.specs.Sets.{lacking}
+use Rattle.cow_members.proofs.Operations.{lacking-ascending, none-missing}
+use Rattle.cow_members.specs.Sets.{lacking}
 use Rattle.cow_dict.specs.Dictionaries.{PaysWith, takes, units}
 use Rattle.cow_dict.specs.Storages.{PairsView, by_key, keys, listed, map_of}
 use Rattle.cow_dict.proofs.Calls.{count-listed, count-map, distinct, keys-map}

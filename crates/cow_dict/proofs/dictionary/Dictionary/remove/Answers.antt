@@ -10,7 +10,7 @@ use Rattle.cow_model.specs.Members.{member}
 use Rattle.cow_model.specs.Pairs.{value_in}
 use Rattle.cow_model.specs.Purse.{Purse, Moves, more, unit_if}
 use Rattle.cow_model.specs.declared.value.Pair.{Pair}
-use Rattle.cow_set.proofs.Keys.{plain-at}
+use Rattle.cow_members.proofs.Keys.{plain-at}
 use Rattle.cow_dict.specs.Dictionaries.{has, without, Pays, units}
 use Rattle.cow_dict.specs.Storages.{PairsView, listed, by_key, pair_of}
 use Rattle.cow_dict.proofs.Calls.{has-map, key-ends, map-kept, map-taken, paid-key, value-absent, value-found}

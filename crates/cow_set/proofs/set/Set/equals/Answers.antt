@@ -7,7 +7,7 @@ use Rattle.cow_members.specs.Members.{MembersView}
 use Rattle.cow_model.specs.Flat.{Flat}
 use Rattle.cow_model.specs.Members.{ascending}
 use Rattle.cow_model.specs.declared.plain.Literal.{Literal}
-use Rattle.cow_set.proofs.Operations.{equal-by, equal-back}
+use Rattle.cow_members.proofs.Operations.{equal-by, equal-back}
 use Rattle.cow_set.proofs.set.Set.equals.Goals as goal
 
 pub returns-then-len : goal.returns-then-len

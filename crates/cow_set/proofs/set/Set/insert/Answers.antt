@@ -4,7 +4,7 @@ use Rattle.cow_members.specs.Members.{MembersView}
 use Rattle.cow_model.specs.Flat.{Flat}
 use Rattle.cow_model.specs.Purse.{Purse}
 use Rattle.cow_model.specs.declared.plain.Literal.{Literal}
-use Rattle.cow_set.proofs.Keys.{held-unit}
+use Rattle.cow_members.proofs.Keys.{held-unit}
 use Rattle.cow_set.proofs.set.Set.insert.Goals as goal
 
 pub returns-in-Some-clause-paid : goal.returns-in-Some-clause-paid

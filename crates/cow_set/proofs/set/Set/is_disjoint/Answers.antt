@@ -3,7 +3,7 @@ use Rattle.cow_members.specs.Members.{MembersView}
 use Rattle.cow_model.specs.Flat.{Flat}
 use Rattle.cow_model.specs.Members.{ascending, disjoint}
 use Rattle.cow_model.specs.declared.plain.Literal.{Literal}
-use Rattle.cow_set.proofs.Operations.{disjoint-is, disjoint-turned}
+use Rattle.cow_members.proofs.Operations.{disjoint-is, disjoint-turned}
 use Rattle.cow_set.proofs.set.Set.is_disjoint.Goals as goal
 
 pub returns-then-len : goal.returns-then-len

@@ -3,7 +3,7 @@ use Rattle.cow_members.specs.Members.{MembersView}
 use Rattle.cow_model.specs.Flat.{Flat}
 use Rattle.cow_model.specs.Members.{ascending}
 use Rattle.cow_model.specs.declared.plain.Literal.{Literal}
-use Rattle.cow_set.proofs.Keys.{empty-by}
+use Rattle.cow_members.proofs.Keys.{empty-by}
 use Rattle.cow_set.proofs.set.Set.is_empty.Goals as goal
 
 pub returns : goal.returns

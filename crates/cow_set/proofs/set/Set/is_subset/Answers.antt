@@ -6,7 +6,7 @@ use Rattle.cow_members.specs.Members.{MembersView}
 use Rattle.cow_model.specs.Flat.{Flat}
 use Rattle.cow_model.specs.Members.{ascending, subset}
 use Rattle.cow_model.specs.declared.plain.Literal.{Literal}
-use Rattle.cow_set.proofs.Operations.{subset-is, subset-long}
+use Rattle.cow_members.proofs.Operations.{subset-is, subset-long}
 use Rattle.cow_set.proofs.set.Set.is_subset.Goals as goal
 
 pub returns-then-len : goal.returns-then-len

@@ -6,9 +6,9 @@ use Rattle.cow_members.specs.Members.{MembersView, HasAt}
 use Rattle.cow_model.specs.Flat.{Flat}
 use Rattle.cow_model.specs.Members.{ascending, member}
 use Rattle.cow_model.specs.declared.plain.Literal.{Literal}
-use Rattle.cow_set.proofs.Keys.{found-there, plain-at, removed-set, without-none}
+use Rattle.cow_members.proofs.Keys.{found-there, plain-at, removed-set, without-none}
 use Rattle.cow_set.proofs.set.Set.remove.Goals as goal
-use Rattle.cow_set.specs.Sets.{without}
+use Rattle.cow_members.specs.Sets.{without}
 
 pub returns-in-None-clause-ok : goal.returns-in-None-clause-ok
 returns-in-None-clause-ok g c =

@@ -7,10 +7,10 @@ use Rattle.cow_model.specs.Flat.{Flat}
 use Rattle.cow_model.specs.Lists.{Pays}
 use Rattle.cow_model.specs.Members.{ascending, member}
 use Rattle.cow_model.specs.declared.plain.Literal.{Literal}
-use Rattle.cow_set.proofs.Costs.{paid-out}
-use Rattle.cow_set.proofs.Operations.{kept-is, all-kept, set-kept}
+use Rattle.cow_members.proofs.Costs.{paid-out}
+use Rattle.cow_members.proofs.Operations.{kept-is, all-kept, set-kept}
 use Rattle.cow_set.proofs.set.Set.retain.Goals as goal
-use Rattle.cow_set.specs.Sets.{kept_by}
+use Rattle.cow_members.specs.Sets.{kept_by}
 use Rattle.std.specs.List.{list_all}
 
 pub returns-then-all_stay-clause-ok : goal.returns-then-all_stay-clause-ok

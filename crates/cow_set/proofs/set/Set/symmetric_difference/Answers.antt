@@ -10,11 +10,11 @@ use Rattle.cow_model.specs.Members.{ascending, in_order, member, symdiff}
 use Rattle.cow_model.specs.Purse.{Moves}
 use Rattle.cow_model.specs.declared.plain.Literal.{Literal}
 use Rattle.cow_row.specs.Changes.{PaysWith}
-use Rattle.cow_set.proofs.Costs.{paid-with}
-use Rattle.cow_set.proofs.Keys.{empty-by}
-use Rattle.cow_set.proofs.Operations.{lacking-ascending, set-toggled, toggled-none}
+use Rattle.cow_members.proofs.Costs.{paid-with}
+use Rattle.cow_members.proofs.Keys.{empty-by}
+use Rattle.cow_members.proofs.Operations.{lacking-ascending, set-toggled, toggled-none}
 use Rattle.cow_set.proofs.set.Set.symmetric_difference.Goals as goal
-use Rattle.cow_set.specs.Sets.{either, lacking}
+use Rattle.cow_members.specs.Sets.{either, lacking}
 
 pub toggle_all-requires-clause-room : goal.toggle_all-requires-clause-room
 toggle_all-requires-clause-room g c =

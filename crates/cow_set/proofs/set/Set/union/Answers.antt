@@ -10,10 +10,10 @@ use Rattle.cow_model.specs.Members.{ascending, in_order, last, member, subset, u
 use Rattle.cow_model.specs.Purse.{Moves}
 use Rattle.cow_model.specs.declared.plain.Literal.{Literal}
 use Rattle.cow_row.specs.Changes.{PaysWith}
-use Rattle.cow_set.proofs.Costs.{paid-with}
-use Rattle.cow_set.proofs.Operations.{lacking-ascending, none-missing, union-most, union-within, set-union}
+use Rattle.cow_members.proofs.Costs.{paid-with}
+use Rattle.cow_members.proofs.Operations.{lacking-ascending, none-missing, union-most, union-within, set-union}
 use Rattle.cow_set.proofs.set.Set.union.Goals as goal
-use Rattle.cow_set.specs.Sets.{lacking}
+use Rattle.cow_members.specs.Sets.{lacking}
 
 pub add_missing-requires-clause-room : goal.add_missing-requires-clause-room
 add_missing-requires-clause-room g c =

@@ -5,7 +5,7 @@ use Rattle.cow_members.specs.Members.{MembersView, HasAt}
 use Rattle.cow_model.specs.Flat.{Flat}
 use Rattle.cow_model.specs.Members.{member}
 use Rattle.cow_model.specs.declared.plain.Literal.{Literal}
-use Rattle.cow_set.proofs.Keys.{found-there, plain-at}
+use Rattle.cow_members.proofs.Keys.{found-there, plain-at}
 use Rattle.cow_set.proofs.set.Set.update.Goals as goal
 
 pub replace-requires-clause-same : goal.replace-requires-clause-same

@@ -6,7 +6,7 @@ use Rattle.cow_table.proofs.Searches.{table-free}
 use Rattle.cow_table.proofs.table.Table.find.Goals as goal
 
 pub search-requires-clause-free : goal.search-requires-clause-free
-search-requires-clause-free g c = subst (λ (x : List Bucket). HasFree (cells x)) (sym c.as_slice.ensures.value) (table-free c.self.inside.buckets.items c.self.inside.room c.self.invariant)
+search-requires-clause-free g c = subst (λ (x : List Bucket). HasFree (cells x)) (sym c.as_slice.ensures.value) (table-free c.self.inside.buckets.items c.self.inside.room c.self.inside.reach c.self.invariant)
 
 pub search-requires-clause-keys : goal.search-requires-clause-keys
 search-requires-clause-keys g c p h there =

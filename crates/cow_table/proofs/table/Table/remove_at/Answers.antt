@@ -17,4 +17,4 @@ empty-requires-clause-filled c = (
 )
 
 pub empty-requires-clause-free : goal.empty-requires-clause-free
-empty-requires-clause-free c = subst (λ (x : List Bucket). HasFree (cells x)) (sym c.as_mut_slice.ensures.value) (table-free c.self.inside.buckets.items c.self.inside.room c.self.invariant)
+empty-requires-clause-free c = subst (λ (x : List Bucket). HasFree (cells x)) (sym c.as_mut_slice.ensures.value) (table-free c.self.inside.buckets.items c.self.inside.room c.self.inside.reach c.self.invariant)
