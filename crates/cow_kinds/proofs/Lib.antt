@@ -1,5 +1,4 @@
 pub mod Alike
-pub mod Dicts
 pub mod Equals
 pub mod Heaps
 pub mod Printing

@@ -1,3 +1,2 @@
-pub mod Dicts
 pub mod Sets
 pub mod Values

@@ -82,6 +82,16 @@ fn set_of<Q: Stock>(
     Some((s, h))
 }
 
+/// A further set of these members.
+fn another<Q: Stock>(alloc: Global, keys: &[i64], h: &mut Holder<Q>) -> Option<Set<i64, Q>> {
+    if h.spare() == 0 {
+        return None;
+    }
+    let mut s = Set::new(alloc, h).ok()?;
+    add_all(&mut s, keys, h)?;
+    Some(s)
+}
+
 /// Row `set-one-home`: what its calls answer on four keys of one home among 8 buckets, and whether its list is shown.
 fn one_home<Q: Stock>(
     alloc: Global,
@@ -158,7 +168,7 @@ fn shows_odd<Q: Stock>(alloc: Global, s: &Set<i64, Q>, count: i64) -> Option<boo
         if *k != next || next > count {
             return Some(false);
         }
-        next += 2;
+        next = next.wrapping_add(2);
     }
     Some(next > count)
 }
@@ -262,11 +272,9 @@ fn set_algebra<Q: Stock>(
     requires { Opens Q.Stock opening }
 {
     let (mut s, mut h) = set_of::<Q>(alloc, opening, &[1, 2, 3])?;
-    let mut u = Set::new(alloc, &mut h).ok()?;
-    add_all(&mut u, &[3, 4], &mut h)?;
+    let u = another(alloc, &[3, 4], &mut h)?;
     let joined = join(alloc, &mut s, &u, &mut h)?;
-    let mut v = Set::new(alloc, &mut h).ok()?;
-    add_all(&mut v, &[4], &mut h)?;
+    let v = another(alloc, &[4], &mut h)?;
     let differed = differ(alloc, &mut s, &u, &v, &mut h)?;
     Some((joined, differed, ask(&mut s, &u, &v, &mut h)?))
 }
