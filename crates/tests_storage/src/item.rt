@@ -1,6 +1,7 @@
 ghost use Rattle.std.specs.Prelude.{◌≡◌, ◌≤◌, true, false};
 ghost use Rattle.cow_cell.specs.Opens.{Opens};
-ghost use Rattle.tests_storage.specs.Parts.{plain_of_part, part_hash};
+ghost use Rattle.tests_storage.specs.Parts.{plain_of_part, name_of, part_hash};
+ghost use Rattle.cow_model.proofs.Hashes.{fnv_fits};
 ghost use Rattle.cow_model.specs.declared.plain.Literal.TheVariants.{Int};
 ghost use Rattle.std.proofs.Common.{rules};
 
@@ -80,6 +81,8 @@ impl<Q: Stock> Key<Q> for Part<Q> {
             unlike => unlike,
         }
     }
+
+    ghost hash_fits = { λ part. fnv_fits (name_of part) };
 }
 
 /// A copy of a key of any kind is the same key, and both give their units back.
