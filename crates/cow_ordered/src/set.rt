@@ -496,6 +496,15 @@ impl<K: Key<Q>, Q: Stock> OrderedSet<K, Q> {
         Ok(())
     }
 
+    /// How many members of `other` aren't members: by so many `union` grows it. One look-up a member of `other`.
+    pub fn lacking(&self, other: &OrderedSet<K, Q>) -> usize
+        ensures value { result ≡ lacking self.now.value other.now.value }
+        ensures distinct { Ascends (ascending self.now.value) }
+        ensures others { Ascends (ascending other.now.value) }
+    {
+        algebra::missing(self.cell.get(), other.cell.get())
+    }
+
     /// Whether each member is one of `other`: Swift's `isSubset(of:)`. At most one look-up a member, and none where
     /// `other` has fewer.
     pub fn is_subset(&self, other: &OrderedSet<K, Q>) -> bool
