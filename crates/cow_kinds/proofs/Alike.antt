@@ -2,8 +2,10 @@
 use Rattle.std.proofs.Common.{◌≡◌, ℕ, ◌+◌, ◌-◌, ◌<◌, ◌≤◌, pos, Bool, true, List, [], ◌∷◌, ◌++◌, length, take, drop, reverse, get_or, set, swap, slice_get, Some, refl, sym, ap, ◌∙◌, arith}
 use Rattle.std.specs.Bool.{Decides}
 use Rattle.std.proofs.lemmas.Option.{get_or_from_slice_get, slice_get-get_or}
-use Rattle.std.proofs.lemmas.List.{get_or-set_same, set-get_or, get_or-drop, get_or-reverse, length-reverse, length-set, length-append, length-drop, take_more_same, take-append-drop, drop-drop, append_assoc, append_cancel_left, append_cancel_right, append-nil}
+use Rattle.std.proofs.lemmas.List.{get_or-set_same, set-get_or, get_or-drop, get_or-reverse, length-reverse, length-set, length-append, length-drop, take_more_same, take-append-drop, drop-drop, append_assoc, append_cancel_left, append_cancel_right, append-nil, take_all}
 use Rattle.std.proofs.lemmas.List.Edits.{swap_is}
+use Rattle.cow_deque.proofs.Turns.{length-turned, turned-at}
+use Rattle.cow_deque.specs.Rings.{turned, Wraps}
 use Rattle.cow_model.specs.Plain.{same_items}
 use Rattle.cow_model.specs.declared.plain.Literal.{Literal}
 use Rattle.cow_model.specs.declared.plain.Literal.TheVariants as literal
@@ -65,6 +67,23 @@ pub mirrored-more : (xs : List Literal) (i : ℕ) → i < length xs → take i x
 mirrored-more xs i lt h e =
     let zero = literal.Int (pos 0) in
     take_more_same xs (reverse xs) i zero lt (rw (length-reverse xs) lt) h (places-same zero xs i (length xs - 1 - i) lt (omega (arith, lt)) e ∙ sym (get_or-reverse xs i zero lt))
+
+-- one more element that is the same where the first k stand last
+pub turned-more : (xs : List Literal) (k i p : ℕ) → k ≤ length xs → i < length xs → Wraps k i (length xs) p → take i xs ≡ take i (turned k xs) → slice_get xs i ≡ slice_get xs p → take (i + 1) xs ≡ take (i + 1) (turned k xs)
+turned-more xs k i p le lt w h e =
+    let zero = literal.Int (pos 0) in
+    take_more_same xs (turned k xs) i zero lt (rw (length-turned k xs) lt) h (places-same zero xs i p lt w.0 e ∙ sym (turned-at xs k i p zero le lt w))
+
+-- a list that is the same then shows one element in both places
+pub turned-shows : (xs : List Literal) (k i p : ℕ) → k ≤ length xs → i < length xs → Wraps k i (length xs) p → xs ≡ turned k xs → slice_get xs i ≡ slice_get xs p
+turned-shows xs k i p le lt w e =
+    let zero = literal.Int (pos 0) in
+    let one : get_or xs i zero ≡ get_or xs p zero = ap (λ (l : List Literal). get_or l i zero) e ∙ turned-at xs k i p zero le lt w in
+    same-places zero xs i p lt w.0 one
+
+-- all of its elements are
+pub turned-whole : (xs : List Literal) (k n : ℕ) → n ≡ length xs → take n xs ≡ take n (turned k xs) → xs ≡ turned k xs
+turned-whole xs k n e h = sym (take_all n xs (omega (arith, e))) ∙ h ∙ take_all n (turned k xs) (omega (arith, e, length-turned k xs))
 
 -- one more element that is the atom in its place
 pub shown-more : (xs atoms : List Literal) (from k : ℕ) (a : Literal) → from + k < length xs → k < length atoms → take k (drop from xs) ≡ take k atoms → slice_get xs (from + k) ≡ Some a → a ≡ get_or atoms k a → take (k + 1) (drop from xs) ≡ take (k + 1) atoms

@@ -7,7 +7,7 @@ use Rattle.cow_model.specs.Flat.{Flat}
 use Rattle.cow_model.specs.Sharing.{Layer}
 use Rattle.cow_model.specs.declared.plain.Literal.{Literal}
 use Rattle.cow_model.specs.declared.statement.Statement.TheOpen.{Statement-F}
-use Rattle.cow_model.specs.declared.value.Plain.TheVariants.{Array, Slice, Set, Heap}
+use Rattle.cow_model.specs.declared.value.Plain.TheVariants.{Array, Slice, Deque, Set, Heap}
 use Rattle.cow_value.specs.Seen.{Seen, Brings}
 
 -- an array
@@ -17,6 +17,10 @@ array a = record { value = Array a.value; alone = a.alone; hidden = 0 }
 -- a slice: the units of its storage, those of elements that it doesn't show among them
 abbrev pub slice : Flat slices.Slice → Seen
 slice s = record { value = Slice s.value.start s.value.items; alone = s.alone; hidden = s.value.units }
+
+-- a deque
+abbrev pub deque : Flat (List Literal) → Seen
+deque q = record { value = Deque q.value; alone = q.alone; hidden = 0 }
 
 -- a set
 abbrev pub set : Flat (List Literal) → Seen
@@ -34,6 +38,7 @@ lent counted items = record { units = count_by counted items; atoms = 0; nodes =
 abbrev pub seen : {T Q : Type 0} → Value T Q → Seen
 seen (variants.Array a) = array a
 seen (variants.Slice s) = slice s
+seen (variants.Deque q) = deque q
 seen (variants.Set s) = set s
 seen (variants.Heap s) = heap s
 

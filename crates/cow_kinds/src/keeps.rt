@@ -1,13 +1,14 @@
 // Whether a statement leaves a list of elements the same, told before it is done: no memory is
 // taken and no element is made.
-ghost use Rattle.std.specs.Prelude.{◌≡◌, ◌-◌, ◌≤◌, ◌↔◌, ◌++◌, take, drop, reverse, length, slice_get, slice_set, Some, IfSome, IsTrue};
+ghost use Rattle.std.specs.Prelude.{◌≡◌, ◌+◌, ◌-◌, ◌<◌, ◌≤◌, ◌↔◌, ◌++◌, take, drop, reverse, length, slice_get, slice_set, Some, IfSome, IsTrue};
 ghost use Rattle.std.specs.List as lists;
 ghost use Rattle.cow_model.specs.Operation as spec;
 ghost use Rattle.cow_model.specs.Plain.{same_items};
+ghost use Rattle.cow_deque.specs.Rings.{turned, Wraps};
 
 use crate::element::Element;
 use crate::listed::Listed;
-use crate::positions::{index, stretch};
+use crate::positions::{index, index_to_end, stretch};
 use cow_cell::Stock;
 use cow_item::Key;
 use cow_model::Literal;
@@ -41,6 +42,30 @@ pub fn is_palindrome<T: Element<Q>, Q: Stock, L: Listed<T, Q>>(list: &L) -> bool
     let n = list.size();
     for i in 0..n {
         if !agree(list, i, n - 1 - i) {
+            return false;
+        }
+    }
+    true
+}
+
+// The place that is `k` behind place `i` of `n`, counted round the end.
+fn behind(i: usize, k: usize, n: usize) -> usize
+    requires place { i < n }
+    requires within { k ≤ n }
+    ensures { Wraps k i n result }
+{
+    if i < n - k { i + k } else { i - (n - k) }
+}
+
+// Whether the list is the same where its first `k` elements stand last.
+fn repeats<T: Element<Q>, Q: Stock, L: Listed<T, Q>>(list: &L, k: usize) -> bool
+    requires within { k ≤ length (L.elements list.now) }
+    ensures { IsTrue result ↔ (L.elements list.now ≡ turned k (L.elements list.now)) }
+{
+    let n = list.size();
+    for i in 0..n {
+        let j = behind(i, k, n);
+        if !agree(list, i, j) {
             return false;
         }
     }
@@ -95,6 +120,17 @@ pub fn swap<T: Element<Q>, Q: Stock, L: Listed<T, Q>>(list: &L, i: i64, j: i64) 
     match (index(0, list.size(), i), index(0, list.size(), j)) {
         (Some(first), Some(second)) => agree(list, first, second),
         _ => false,
+    }
+}
+
+/// Whether `rotate N C` leaves it the same.
+pub fn rotate<T: Element<Q>, Q: Stock, L: Listed<T, Q>>(list: &L, c: i64) -> bool
+    ensures { IfSome (spec.index 0 (length (L.elements list.now) + 1) c)
+        (λ k. result ≡ same_items (L.elements list.now) (turned k (L.elements list.now))) }
+{
+    match index_to_end(list.size(), c) {
+        Some(first) => repeats(list, first),
+        None => false,
     }
 }
 

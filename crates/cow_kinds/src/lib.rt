@@ -14,6 +14,7 @@
 #![tactic(auto)]
 
 mod array;
+mod deque;
 mod element;
 mod heap;
 mod keeps;

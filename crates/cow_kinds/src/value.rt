@@ -4,9 +4,10 @@ ghost use Rattle.std.specs.Prelude.{true};
 ghost use Rattle.cow_kinds.specs.Values as values;
 
 use crate::element::Element;
-use crate::{array, heap, set, slice};
+use crate::{array, deque, heap, set, slice};
 use cow_array::{Array, ArraySlice};
 use cow_cell::{Holder, Stock};
+use cow_deque::Deque;
 use cow_heap::Heap;
 use cow_model::{Kind, Literal, NoMemory, Refusal, Statement};
 use cow_set::Set;
@@ -18,6 +19,7 @@ use std::alloc::Global;
 pub enum Value<T: Element<Q>, Q: Stock> {
     Array(Array<T, Q>),
     Slice(ArraySlice<T, Q>),
+    Deque(Deque<T, Q>),
     Set(Set<T, Q>),
     Heap(Heap<T, Q>),
 }
@@ -28,6 +30,7 @@ macro_rules! each {
         match $value {
             Value::Array($it) => $call,
             Value::Slice($it) => $call,
+            Value::Deque($it) => $call,
             Value::Set($it) => $call,
             Value::Heap($it) => $call,
         }
@@ -40,6 +43,7 @@ macro_rules! alike {
         match $value {
             Value::Array($it) => Value::Array($call),
             Value::Slice($it) => Value::Slice($call),
+            Value::Deque($it) => Value::Deque($call),
             Value::Set($it) => Value::Set($call),
             Value::Heap($it) => Value::Heap($call),
         }
@@ -156,6 +160,7 @@ impl<T: Element<Q>, Q: Stock> Values<Q> for Value<T, Q> {
     ) -> Result<Value<T, Q>, NoMemory> {
         match kind {
             Kind::Array => Ok(Value::Array(array::make(alloc, atoms, h)?)),
+            Kind::Deque => Ok(Value::Deque(deque::make(alloc, atoms, h)?)),
             Kind::Set => Ok(Value::Set(set::make(alloc, atoms, h)?)),
             Kind::Heap => Ok(Value::Heap(heap::make(alloc, atoms, h)?)),
             _ => unreachable!(),

@@ -9,6 +9,7 @@ use Rattle.cow_model.specs.declared.statement.Statement.TheOpen.{Statement-F}
 -- the kinds
 abbrev pub is_built_kind : Kind → Bool
 is_built_kind kind.Array = true
+is_built_kind kind.Deque = true
 is_built_kind kind.Set = true
 is_built_kind kind.Heap = true
 is_built_kind k = false
@@ -16,11 +17,9 @@ is_built_kind k = false
 -- the line of a statement that isn't built: its word isn't, or in a `let` its kind
 abbrev pub unbuilt_at : Layer → Option ℕ
 unbuilt_at (Statement-F.Let l n k atoms) = if is_built_kind k then None else Some l
-unbuilt_at (Statement-F.Prepend l n a) = Some l
 unbuilt_at (Statement-F.RemoveAt l n i) = Some l
 unbuilt_at (Statement-F.At l n i) = Some l
 unbuilt_at (Statement-F.Place l n a) = Some l
-unbuilt_at (Statement-F.Rotate l n c) = Some l
 unbuilt_at (Statement-F.Put l n k v) = Some l
 unbuilt_at (Statement-F.Merge l n m take) = Some l
 unbuilt_at (Statement-F.Within l n m) = Some l

@@ -35,6 +35,46 @@ const LISTS: &[&str] = &[
     "equal N N",
 ];
 
+const DEQUES: &[&str] = &[
+    "let N = deque L",
+    "let N = deque L A A",
+    "let N = deque 1 1 A",
+    "let N = N",
+    "let N = N",
+    "let N = N",
+    "let N = array L",
+    "drop N",
+    "show N",
+    "show N",
+    "count N",
+    "append N A",
+    "append N A",
+    "prepend N A",
+    "prepend N A",
+    "insert N A",
+    "insert N P A",
+    "insert N P A",
+    "remove N A",
+    "remove N A",
+    "set N P A",
+    "set N P A",
+    "get N A",
+    "pop N E",
+    "pop N first",
+    "pop N last",
+    "rotate N P",
+    "rotate N P",
+    "rotate N P",
+    "reserve N P",
+    "swap N P P",
+    "reverse N",
+    "splice N P P L",
+    "clear N",
+    "extend N N",
+    "equal N N",
+    "equal N N",
+];
+
 const SETS: &[&str] = &[
     "let N = set K K K L",
     "let N = set K K",
@@ -97,7 +137,7 @@ const HEAPS: &[&str] = &[
 ];
 
 /// The forms of the kinds that are built. A script has those of one.
-const FORMS: &[&[&str]] = &[LISTS, SETS, HEAPS];
+const FORMS: &[&[&str]] = &[LISTS, DEQUES, SETS, HEAPS];
 
 const NAMES: &[&str] = &["a", "b", "c", "d"];
 

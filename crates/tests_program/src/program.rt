@@ -193,6 +193,20 @@ const ROWS: &[(&[&str], &str, &str, u8)] = &[
         "2 / [3, 9] from 2 / [3, 9] / [1, 2, 3, 4]",
         0,
     ),
+    // deque_ring
+    (
+        CENSUS,
+        "let q = deque 1 2 3 4 / pop q first / pop q first / pop q first / append q 5 / append q 6 / append q 7 / show q / rotate q 1 / show q",
+        "1 / 2 / 3 / [4, 5, 6, 7] / [5, 6, 7, 4] / copied 7 of at most 7",
+        0,
+    ),
+    // deque_calls
+    (
+        CENSUS,
+        "let q = deque 1 2 3 / prepend q 0 / insert q 2 7 / set q 0 5 / remove q 1 / pop q last / reserve q 8 / show q",
+        "1 / 3 / [5, 7, 2] / copied 6 of at most 7",
+        0,
+    ),
     // set_one_home: all four have one home bucket of 8
     (
         CENSUS,
@@ -246,7 +260,7 @@ const ROWS: &[(&[&str], &str, &str, u8)] = &[
     (RUN, "let s = tset 1", "line 1: not built", 9),
     (
         CENSUS,
-        "let a = array 1 / show a / at a 0 / rotate a 1",
+        "let a = array 1 / show a / at a 0 / place a 1",
         "line 3: not built",
         9,
     ),
