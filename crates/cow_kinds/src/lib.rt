@@ -14,11 +14,13 @@
 #![tactic(auto)]
 
 mod array;
+mod dict;
 mod element;
 mod heap;
 mod keeps;
 mod lines;
 mod listed;
+mod pairs;
 mod positions;
 mod queries;
 mod reading;

@@ -10,6 +10,7 @@ use Rattle.cow_model.specs.declared.statement.Statement.TheOpen.{Statement-F}
 abbrev pub is_built_kind : Kind → Bool
 is_built_kind kind.Array = true
 is_built_kind kind.Set = true
+is_built_kind kind.Dict = true
 is_built_kind kind.Heap = true
 is_built_kind k = false
 
@@ -21,9 +22,6 @@ unbuilt_at (Statement-F.RemoveAt l n i) = Some l
 unbuilt_at (Statement-F.At l n i) = Some l
 unbuilt_at (Statement-F.Place l n a) = Some l
 unbuilt_at (Statement-F.Rotate l n c) = Some l
-unbuilt_at (Statement-F.Put l n k v) = Some l
-unbuilt_at (Statement-F.Merge l n m take) = Some l
-unbuilt_at (Statement-F.Within l n m) = Some l
 unbuilt_at (Statement-F.Lazy l n i verb) = Some l
 unbuilt_at s = None
 

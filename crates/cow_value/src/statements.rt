@@ -49,7 +49,7 @@ pub fn unbuilt_line(statement: &Statement) -> Option<u64>
 {
     match statement {
         Statement::Let { line, kind, .. } => match kind {
-            Kind::Array | Kind::Set | Kind::Heap => None,
+            Kind::Array | Kind::Set | Kind::Dict | Kind::Heap => None,
             _ => Some(*line),
         },
         Statement::Prepend { line, .. }
@@ -57,9 +57,6 @@ pub fn unbuilt_line(statement: &Statement) -> Option<u64>
         | Statement::At { line, .. }
         | Statement::Place { line, .. }
         | Statement::Rotate { line, .. }
-        | Statement::Put { line, .. }
-        | Statement::Merge { line, .. }
-        | Statement::Within { line, .. }
         | Statement::Lazy { line, .. } => Some(*line),
         _ => None,
     }
