@@ -37,9 +37,7 @@ both-same : (p q : Pair) → Decides (same_pair p q) (p ≡ q)
 both-same p q = (
     (λ e.
     let both = and-both (same p.key q.key) (same p.value q.value) e in
-    let k : p.key ≡ q.key = same-is p.key q.key both.0 in
-    let v : p.value ≡ q.value = same-is p.value q.value both.1 in
-    cc),
+    ap (λ k. pair_of k p.value) (same-is p.key q.key both.0) ∙ ap (pair_of q.key) (same-is p.value q.value both.1)),
     (λ e. rw e (ap (λ b. b && same q.value q.value) (itself q.key) ∙ itself q.value)),
   )
 

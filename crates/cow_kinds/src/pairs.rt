@@ -22,6 +22,19 @@ fn put_pair<T: Element<Q>, Q: Stock>(pair: &(&T, &T), text: &mut Vec<u8>) -> Res
     Ok(())
 }
 
+// A comma, and then a pair. Want of memory leaves a part of them.
+fn put_behind_comma<T: Element<Q>, Q: Stock>(
+    pair: &(&T, &T),
+    text: &mut Vec<u8>,
+) -> Result<(), NoMemory>
+    ensures ok { OnOk result (text.new.items ≡ text.old.items
+        ++ behind_comma (pair_text (pair_of (T.plain pair.now.0.now) (T.plain pair.now.1.now)))) }
+    ensures front { StartsWith text.new.items text.old.items }
+{
+    text.extend_from_slice(b", ")?;
+    put_pair(pair, text)
+}
+
 // The pairs but the first, each behind a comma.
 fn put_others<T: Element<Q>, Q: Stock>(
     pairs: &[(&T, &T)],
@@ -32,8 +45,7 @@ fn put_others<T: Element<Q>, Q: Stock>(
     ensures front { StartsWith text.new.items text.old.items }
 {
     for pair in pairs {
-        text.extend_from_slice(b", ")?;
-        put_pair(pair, text)?;
+        put_behind_comma(pair, text)?;
     }
     Ok(())
 }
