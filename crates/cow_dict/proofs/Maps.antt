@@ -253,11 +253,11 @@ module _ (place : Placing) where
       by true e = refl
       by false e = absurd (true≢false (sym e))
 
-  put-here : (r p : Pair) (ps : List Pair) → same r.key p.key ≡ true → put place (p ∷ ps) r ≡ r ∷ ps
+  pub put-here : (r p : Pair) (ps : List Pair) → same r.key p.key ≡ true → put place (p ∷ ps) r ≡ r ∷ ps
   put-here r p ps e = subst (λ (b : Bool). put_at place (first (cond (not b) (1 + passed r.key ps) 0) (suc (length ps))) r (p ∷ ps) ≡ r ∷ ps) (sym e)
       (ap (λ b. put_at place (cond {A = Option ℕ} b (Some 0) None) r (p ∷ ps)) (less-zero (length ps)))
 
-  put-past : (r p : Pair) (ps : List Pair) → same r.key p.key ≡ false → member r.key (keys ps) ≡ true → put place (p ∷ ps) r ≡ p ∷ put place ps r
+  pub put-past : (r p : Pair) (ps : List Pair) → same r.key p.key ≡ false → member r.key (keys ps) ≡ true → put place (p ∷ ps) r ≡ p ∷ put place ps r
   put-past r p ps e m = subst (λ (b : Bool). put_at place (first (cond (not b) (1 + passed r.key ps) 0) (suc (length ps))) r (p ∷ ps) ≡ p ∷ put place ps r) (sym e)
       (put-further r p ps (passed r.key ps) (has-member r.key ps ∙ m))
 

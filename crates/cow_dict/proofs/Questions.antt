@@ -4,6 +4,7 @@ use Rattle.std.specs.Prelude.{is_some}
 use Rattle.std.specs.List.{list_all, zip}
 use Rattle.std.specs.List.Sorted.{IsSortedBy}
 use Rattle.std.proofs.lemmas.Bool.{true≢false}
+use Rattle.std.proofs.lemmas.Bool.Decides.{same_from_decides}
 use Rattle.std.proofs.lemmas.List.{length-map}
 use Rattle.std.proofs.lemmas.List.Folds.{list_all-append}
 use Rattle.std.proofs.lemmas.List.Sorted.{IsPermutation-map}
@@ -19,7 +20,7 @@ use Rattle.cow_model.specs.declared.value.Pair.{Pair}
 use Rattle.cow_set.proofs.Sorted.{before, sorted-ascends}
 use Rattle.cow_dict.specs.Dictionaries.{is_value, holds, kept_by}
 use Rattle.cow_dict.specs.Storages.{pair_of, keys, by_key, side_by_side}
-use Rattle.cow_dict.proofs.Maps.{Distinct, keys-tail, member-value, value-here, value-past, value-none, value-by_key, value-permutes, ascends-by_key, same-map}
+use Rattle.cow_dict.proofs.Maps.{Distinct, keys-tail, member-value, value-here, value-past, value-none, value-by_key, value-permutes, ascends-by_key, distinct-ascending, same-map}
 use Rattle.cow_dict.proofs.Merges.{more-front}
 
 -- ---- all of them, as far as they were looked at
@@ -107,6 +108,17 @@ equal-by ps rs d e n all =
 
 pub equal-back : (ps rs : List Pair) → Distinct ps → Distinct rs → by_key ps ≡ by_key rs → list_all (holds ps) rs ≡ true
 equal-back ps rs d e same_map = all-held ps rs e (λ q v f. sym (value-by_key ps d q) ∙ ap (value_in q) same_map ∙ value-by_key rs e q ∙ f)
+
+-- the order of the pairs doesn't matter
+pub held-by_key : (ps rs : List Pair) → Distinct ps → Distinct rs → list_all (holds ps) rs ≡ list_all (holds (by_key ps)) (by_key rs)
+held-by_key ps rs d e =
+    let t = distinct-ascending (by_key rs) (ascends-by_key rs e) in
+    same_from_decides (list_all (holds ps) rs) (list_all (holds (by_key ps)) (by_key rs))
+    (value-held ps rs, all-held ps rs e)
+    (
+      (λ all q v f. sym (value-by_key ps d q) ∙ value-held (by_key ps) (by_key rs) all q v (value-by_key rs e q ∙ f)),
+      (λ h. all-held (by_key ps) (by_key rs) t (λ q v f. value-by_key ps d q ∙ h q v (sym (value-by_key rs e q) ∙ f))),
+    )
 
 -- ---- pairs in the order of their keys
 pub sorted-map : (ps ss : List Pair) → Distinct ps → IsPermutation ps ss → Ascends (keys ss) → ss ≡ by_key ps

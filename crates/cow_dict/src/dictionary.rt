@@ -1,6 +1,6 @@
 ghost use Rattle.std.specs.Prelude.{◌≡◌, ℕ, ◌+◌, ◌-◌, ◌*◌, ◌<◌, ◌≤◌, ◌^◌, [], ◌∷◌, length, map, IfOk, IfErr, OnOk, OnErr, IsOk, IfSome, All, Bool, option_map, IsTrue, ◌↔◌, true, false};
 ghost use Rattle.std.specs.List.{sum_by, list_all, zip};
-ghost use Rattle.cow_dict.specs.Dictionaries.{has, without, kept_by, AnswersBy, takes, comes, goes, Doubles, HandsBoth, units, key_units, Pays, PaysWith, Returns};
+ghost use Rattle.cow_dict.specs.Dictionaries.{has, holds, without, kept_by, AnswersBy, takes, comes, goes, Doubles, HandsBoth, units, key_units, Pays, PaysWith, Returns};
 ghost use Rattle.cow_dict.specs.Storages.{pair_of, keys, side_by_side, by_key};
 ghost use Rattle.cow_members.specs.Ascents.{Ascends};
 ghost use Rattle.cow_model.specs.Flat.{Becomes, Stays, HasRoom, need, settled};
@@ -146,7 +146,9 @@ impl<K: Key<Q>, V: Item<Q>, Q: Stock> Dictionary<K, V, Q> {
     /// The value under `k`, or under the key that it stands for: Swift's `subscript(key:)`. `None` exactly where there
     /// is none.
     pub fn get<E: Equivalent<K, Q>>(&self, k: &E) -> Option<&V>
-        ensures { option_map (λ v. V.plain v.now) result ≡ value_in (E.sought k.now) self.now.value }
+        ensures value { option_map (λ v. V.plain v.now) result
+            ≡ value_in (E.sought k.now) self.now.value }
+        ensures distinct { Ascends (keys self.now.value) }
     {
         let shown = self.cell.get();
         match members::place_of(shown.members(), k.sought_hash(), k) {
@@ -323,6 +325,25 @@ impl<K: Key<Q>, V: Item<Q>, Q: Stock> Dictionary<K, V, Q> {
         storage::prepare(&mut self.cell, self.alloc, n, h)
     }
 
+    /// How many keys of `other` aren't keys: by so many pairs `merge` grows it. One look-up a key of `other`.
+    #[tactic(auto, using(crate::proofs::Calls::call_steps))]
+    pub fn lacking(&self, other: &Dictionary<K, V, Q>) -> usize
+        ensures value { result ≡ lacking (keys self.now.value) (keys other.now.value) }
+        ensures distinct { Ascends (keys self.now.value) × Ascends (keys other.now.value) }
+    {
+        algebra::missing(self.cell.get(), other.cell.get())
+    }
+
+    /// Whether `test` answers true to each key: Swift's `keys.allSatisfy`. It answers by the plain key alone.
+    #[tactic(auto, using(crate::proofs::Calls::call_steps))]
+    pub fn all_keys<F: Fn(&K) -> bool>(&self, test: F) -> bool
+        requires { F.IsAlwaysCallable test }
+        ensures { (p : Literal → Bool) → AnswersBy (λ k. K.plain k.now) (F.post test) p
+            → result ≡ list_all p (keys self.now.value) }
+    {
+        algebra::all_stay(self.cell.get(), &test)
+    }
+
     /// References to the pairs by ascending key. Takes memory for them, and n log n comparisons.
     pub fn sorted(&self, alloc: Global) -> Result<Vec<(&K, &V)>, NoMemory>
         ensures { IfOk result
@@ -336,6 +357,14 @@ impl<K: Key<Q>, V: Item<Q>, Q: Stock> Dictionary<K, V, Q> {
 }
 
 impl<K: Key<Q>, V: Key<Q>, Q: Stock> Dictionary<K, V, Q> {
+    /// Whether each pair of `other` is one of these. At most one look-up a key of `other`.
+    pub fn includes(&self, other: &Dictionary<K, V, Q>) -> bool
+        ensures value { result ≡ list_all (holds self.now.value) other.now.value }
+        ensures distinct { Ascends (keys self.now.value) × Ascends (keys other.now.value) }
+    {
+        algebra::includes(self.cell.get(), other.cell.get())
+    }
+
     /// Whether the two have the same keys, with the same values: Swift's `==`. At most one look-up a key of `other`,
     /// and none where their counts differ.
     pub fn equals(&self, other: &Dictionary<K, V, Q>) -> bool

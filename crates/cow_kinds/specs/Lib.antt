@@ -1,2 +1,3 @@
+pub mod Dicts
 pub mod Sets
 pub mod Values

@@ -6,8 +6,9 @@ use Rattle.cow_kinds.specs.declared.value.Value.TheVariants as variants
 use Rattle.cow_model.specs.Flat.{Flat}
 use Rattle.cow_model.specs.Sharing.{Layer}
 use Rattle.cow_model.specs.declared.plain.Literal.{Literal}
+use Rattle.cow_model.specs.declared.value.Pair.{Pair}
 use Rattle.cow_model.specs.declared.statement.Statement.TheOpen.{Statement-F}
-use Rattle.cow_model.specs.declared.value.Plain.TheVariants.{Array, Slice, Deque, Set, Heap}
+use Rattle.cow_model.specs.declared.value.Plain.TheVariants.{Array, Slice, Deque, Set, Dict, Heap}
 use Rattle.cow_value.specs.Seen.{Seen, Brings}
 
 -- an array
@@ -26,6 +27,10 @@ deque q = record { value = Deque q.value; alone = q.alone; hidden = 0 }
 abbrev pub set : Flat (List Literal) → Seen
 set s = record { value = Set s.value; alone = s.alone; hidden = 0 }
 
+-- a dictionary
+abbrev pub dict : Flat (List Pair) → Seen
+dict d = record { value = Dict d.value; alone = d.alone; hidden = 0 }
+
 -- a heap
 abbrev pub heap : Flat (List Literal) → Seen
 heap s = record { value = Heap s.value; alone = s.alone; hidden = 0 }
@@ -34,12 +39,17 @@ heap s = record { value = Heap s.value; alone = s.alone; hidden = 0 }
 abbrev pub lent : (Literal → Bool) → List Literal → Brings
 lent counted items = record { units = count_by counted items; atoms = 0; nodes = 0 }
 
+-- a pair of two atoms
+abbrev pub pair_of : Literal → Literal → Pair
+pair_of key value = record { key = key; value = value }
+
 -- kind by kind
 abbrev pub seen : {T Q : Type 0} → Value T Q → Seen
 seen (variants.Array a) = array a
 seen (variants.Slice s) = slice s
 seen (variants.Deque q) = deque q
 seen (variants.Set s) = set s
+seen (variants.Dict d) = dict d
 seen (variants.Heap s) = heap s
 
 -- `rebase` gives a value of another kind, so no kind does it by itself

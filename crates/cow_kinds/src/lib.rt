@@ -15,11 +15,13 @@
 
 mod array;
 mod deque;
+mod dict;
 mod element;
 mod heap;
 mod keeps;
 mod lines;
 mod listed;
+mod pairs;
 mod positions;
 mod queries;
 mod reading;

@@ -4,10 +4,11 @@ ghost use Rattle.std.specs.Prelude.{true};
 ghost use Rattle.cow_kinds.specs.Values as values;
 
 use crate::element::Element;
-use crate::{array, deque, heap, set, slice};
+use crate::{array, deque, dict, heap, set, slice};
 use cow_array::{Array, ArraySlice};
 use cow_cell::{Holder, Stock};
 use cow_deque::Deque;
+use cow_dict::Dictionary;
 use cow_heap::Heap;
 use cow_model::{Kind, Literal, NoMemory, Refusal, Statement};
 use cow_set::Set;
@@ -21,6 +22,7 @@ pub enum Value<T: Element<Q>, Q: Stock> {
     Slice(ArraySlice<T, Q>),
     Deque(Deque<T, Q>),
     Set(Set<T, Q>),
+    Dict(Dictionary<T, T, Q>),
     Heap(Heap<T, Q>),
 }
 
@@ -32,6 +34,7 @@ macro_rules! each {
             Value::Slice($it) => $call,
             Value::Deque($it) => $call,
             Value::Set($it) => $call,
+            Value::Dict($it) => $call,
             Value::Heap($it) => $call,
         }
     };
@@ -45,6 +48,7 @@ macro_rules! alike {
             Value::Slice($it) => Value::Slice($call),
             Value::Deque($it) => Value::Deque($call),
             Value::Set($it) => Value::Set($call),
+            Value::Dict($it) => Value::Dict($call),
             Value::Heap($it) => Value::Heap($call),
         }
     };
@@ -162,6 +166,7 @@ impl<T: Element<Q>, Q: Stock> Values<Q> for Value<T, Q> {
             Kind::Array => Ok(Value::Array(array::make(alloc, atoms, h)?)),
             Kind::Deque => Ok(Value::Deque(deque::make(alloc, atoms, h)?)),
             Kind::Set => Ok(Value::Set(set::make(alloc, atoms, h)?)),
+            Kind::Dict => Ok(Value::Dict(dict::make(alloc, atoms, h)?)),
             Kind::Heap => Ok(Value::Heap(heap::make(alloc, atoms, h)?)),
             _ => unreachable!(),
         }

@@ -11,6 +11,7 @@ abbrev pub is_built_kind : Kind → Bool
 is_built_kind kind.Array = true
 is_built_kind kind.Deque = true
 is_built_kind kind.Set = true
+is_built_kind kind.Dict = true
 is_built_kind kind.Heap = true
 is_built_kind k = false
 
@@ -20,9 +21,6 @@ unbuilt_at (Statement-F.Let l n k atoms) = if is_built_kind k then None else Som
 unbuilt_at (Statement-F.RemoveAt l n i) = Some l
 unbuilt_at (Statement-F.At l n i) = Some l
 unbuilt_at (Statement-F.Place l n a) = Some l
-unbuilt_at (Statement-F.Put l n k v) = Some l
-unbuilt_at (Statement-F.Merge l n m take) = Some l
-unbuilt_at (Statement-F.Within l n m) = Some l
 unbuilt_at (Statement-F.Lazy l n i verb) = Some l
 unbuilt_at s = None
 

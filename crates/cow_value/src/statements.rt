@@ -49,15 +49,12 @@ pub fn unbuilt_line(statement: &Statement) -> Option<u64>
 {
     match statement {
         Statement::Let { line, kind, .. } => match kind {
-            Kind::Array | Kind::Deque | Kind::Set | Kind::Heap => None,
+            Kind::Array | Kind::Deque | Kind::Set | Kind::Dict | Kind::Heap => None,
             _ => Some(*line),
         },
         Statement::RemoveAt { line, .. }
         | Statement::At { line, .. }
         | Statement::Place { line, .. }
-        | Statement::Put { line, .. }
-        | Statement::Merge { line, .. }
-        | Statement::Within { line, .. }
         | Statement::Lazy { line, .. } => Some(*line),
         _ => None,
     }

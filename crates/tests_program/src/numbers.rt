@@ -108,6 +108,38 @@ const SETS: &[&str] = &[
     "clear N",
 ];
 
+const DICTS: &[&str] = &[
+    "let N = dict K A K A K A",
+    "let N = dict K A K A",
+    "let N = dict",
+    "let N = N",
+    "let N = N",
+    "let N = set K K K",
+    "let N = set K K K",
+    "drop N",
+    "show N",
+    "show N",
+    "count N",
+    "put N K A",
+    "put N K A",
+    "put N K A",
+    "get N K",
+    "get N K",
+    "remove N K",
+    "remove N K",
+    "has N K",
+    "merge N N keep",
+    "merge N N keep",
+    "merge N N take",
+    "merge N N take",
+    "within N N",
+    "within N N",
+    "equal N N",
+    "union N N",
+    "insert N K",
+    "append N A",
+];
+
 const HEAPS: &[&str] = &[
     "let N = heap K K K L",
     "let N = heap L A A",
@@ -137,7 +169,7 @@ const HEAPS: &[&str] = &[
 ];
 
 /// The forms of the kinds that are built. A script has those of one.
-const FORMS: &[&[&str]] = &[LISTS, DEQUES, SETS, HEAPS];
+const FORMS: &[&[&str]] = &[LISTS, DEQUES, SETS, DICTS, HEAPS];
 
 const NAMES: &[&str] = &["a", "b", "c", "d"];
 

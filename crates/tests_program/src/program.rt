@@ -228,6 +228,27 @@ const ROWS: &[(&[&str], &str, &str, u8)] = &[
         "nil / [1, 2, 3] / copied 3 of at most 16",
         0,
     ),
+    // dict_put
+    (
+        CENSUS,
+        "let d = dict 1 10 / put d 1 2 / put d 3 4 / show d / let e = dict / show e",
+        "10 / nil / [1: 2, 3: 4] / [:] / copied 6 of at most 6",
+        0,
+    ),
+    // stock
+    (
+        CENSUS,
+        "let stock = dict \"nut\" 40 \"bolt\" 12 / let before = stock / put stock \"bolt\" 9 / put stock \"gear\" 3 / show before / show stock / equal before stock",
+        "12 / nil / [\"bolt\": 12, \"nut\": 40] / [\"bolt\": 9, \"gear\": 3, \"nut\": 40] / false / copied 12 of at most 12",
+        0,
+    ),
+    // dict_merge
+    (
+        RUN,
+        "let d = dict 1 10 2 20 / let e = dict 2 21 3 30 / let f = d / merge d e keep / show d / merge f e take / show f / let w = set 1 3 / within d w / show d / remove d 3",
+        "[1: 10, 2: 20, 3: 30] / [1: 10, 2: 21, 3: 30] / [1: 10, 3: 30] / 30",
+        0,
+    ),
     // heap_ends
     (
         CENSUS,
