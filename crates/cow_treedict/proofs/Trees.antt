@@ -1,7 +1,7 @@
 -- The pairs of a canonical shape, as the map that they stand for.
-use Rattle.std.proofs.Common.{◌≡◌, ℕ, zero, suc, ◌+◌, ◌*◌, ◌<◌, ◌≤◌, length, map, List, [], ◌∷◌, Bool, true, false, not, ◌&&◌, ◌||◌, cond, eqb, IsPermutation, Option, Some, None, refl, sym, ap, ◌∙◌, subst, arith}
+use Rattle.std.proofs.Common.{◌≡◌, ℕ, ◌+◌, ◌-◌, ◌*◌, ◌≤◌, length, map, List, [], ◌∷◌, Bool, true, false, not, ◌&&◌, ◌||◌, cond, eqb, IsPermutation, Option, Some, None, refl, sym, ap, ◌∙◌, subst, arith}
 use Rattle.std.specs.Prelude.{is_some, is_none, option_map, count_by}
-use Rattle.std.specs.List.{list_all, sum_by}
+use Rattle.std.specs.List.{list_all}
 use Rattle.std.specs.List.Sorted.{IsSortedBy}
 use Rattle.std.proofs.lemmas.Bool.{true≢false}
 use Rattle.std.proofs.lemmas.List.Sums.{sum_by-cons}
@@ -14,7 +14,8 @@ use Rattle.cow_model.specs.Canon.{is_one, has_key, count_where, IsDistinct, with
 use Rattle.cow_model.specs.Members.{member, ascending}
 use Rattle.cow_model.specs.Order.{same}
 use Rattle.cow_model.specs.Pairs.{in_order, value_in, put}
-use Rattle.cow_model.specs.Purse.{unit_if}
+use Rattle.cow_champ.specs.Spending.{Spends, put_need}
+use Rattle.cow_model.specs.Purse.{Purse, unit_if}
 use Rattle.cow_model.specs.declared.plain.Literal.{Literal}
 use Rattle.cow_model.specs.declared.value.Pair.{Pair}
 use Rattle.cow_members.proofs.Ascents.{same-is, itself, member-same}
@@ -25,7 +26,7 @@ use Rattle.cow_dict.specs.Storages.{pair_of, keys, by_key}
 use Rattle.cow_dict.proofs.Maps.{Distinct, choice, distinct-more, distinct-ascending, keys-tail, keys-by_key, ascends-by_key, value-here, value-past, value-cons, value-by_key, else-same, map-put, has-member, member-value, length-by_key}
 use Rattle.cow_dict.proofs.Questions.{sorted-map, equal-by, equal-back}
 use Rattle.cow_dict.proofs.Sides.{sum-by_key}
-use Rattle.cow_treedict.specs.Trees.{alike}
+use Rattle.cow_treedict.specs.Trees.{alike, on_path}
 
 -- what a test counts
 abbrev one_if : Bool → ℕ
@@ -170,6 +171,14 @@ pub none-map : {X Y : Type 0} (f : X → Y) (o : Option X) → is_none (option_m
 none-map f None = refl
 none-map f (Some x) = refl
 
+pub some-map : {X Y : Type 0} (f : X → Y) (o : Option X) → is_some (option_map f o) ≡ is_some o
+some-map f None = refl
+some-map f (Some x) = refl
+
+pub newly-few : (b : Bool) → unit_if b ≤ 1
+newly-few true = omega arith
+newly-few false = omega arith
+
 -- ---- no pairs
 module _ (hash_of : Literal → ℕ) (level : ℕ) (s : Tree) (e : s ≡ canon hash_of [] level) where
   pub empty-size : 0 ≡ length (pairs s)
@@ -222,3 +231,16 @@ module _ {R : Type 0} (seen : R → Pair) where
       let apart : Distinct (map seen rs) = subst Ascends (keys-by_key (map seen rs)) (subst (λ l. Ascends (keys l)) (sym e) s) in
       let up_keys : Ascends (keys (map seen ss)) = subst Ascends (ap ascending (keys-seen rs) ∙ sym (sorted-ascends first rs ss h up) ∙ sym (keys-seen ss)) apart in
       sorted-map (map seen rs) (map seen ss) apart (IsPermutation-map seen rs ss h) up_keys ∙ e
+
+-- ---- what a change of the root costs
+pub long : (ps v : List Pair) → by_key ps ≡ v → length v ≡ length ps
+long ps v e = sym (ap length e) ∙ length-by_key ps
+
+pub spends-map : (w level : ℕ) (ps v : List Pair) (h k : Purse) → by_key ps ≡ v → level ≡ 0 → Spends (put_need level (length ps)) (w * length ps) h k → Spends (put_need 0 (length v)) (w * length v) h k
+spends-map w level ps v h k e z s = subst (λ x. Spends (put_need 0 x) (w * x) h k) (sym (long ps v e)) (subst (λ l. Spends (put_need l (length ps)) (w * length ps) h k) z s)
+
+pub copies-map : (hash_of : Literal → ℕ) (w level hash : ℕ) (a : Literal) (ps v : List Pair) (h k : Purse) → by_key ps ≡ v → level ≡ 0 → hash ≡ hash_of a → k.copied ≤ h.copied + w * (32 * (7 - level) + count_where (λ p. eqb (hash_of p.key) hash) ps) → k.copied ≤ h.copied + w * on_path hash_of a v
+copies-map hash_of w level hash a ps v h k e z is s =
+    let f : alike hash_of (hash_of a) v ≡ count_where (λ p. eqb (hash_of p.key) hash) ps = ap (alike hash_of (hash_of a)) (sym e) ∙ ap (λ x. alike hash_of x (by_key ps)) (sym is) ∙ alike-map hash_of hash ps in
+    let q : 32 * (7 - level) + count_where (λ p. eqb (hash_of p.key) hash) ps ≡ on_path hash_of a v = omega (arith, z, f) in
+    subst (λ x. k.copied ≤ h.copied + w * x) q s

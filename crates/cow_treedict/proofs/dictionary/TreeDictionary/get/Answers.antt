@@ -1,4 +1,4 @@
-use Rattle.std.proofs.Common.{◌≡◌, List, sym, ap, ◌∙◌}
+use Rattle.std.proofs.Common.{List, ap, ◌∙◌}
 use Rattle.cow_model.specs.Canon.{pairs, get}
 use Rattle.cow_model.specs.Flat.{Flat}
 use Rattle.cow_model.specs.declared.value.Pair.{Pair}

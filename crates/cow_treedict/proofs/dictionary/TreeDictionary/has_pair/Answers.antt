@@ -1,4 +1,4 @@
-use Rattle.std.proofs.Common.{◌≡◌, ap, ◌∙◌}
+use Rattle.std.proofs.Common.{ap, ◌∙◌}
 use Rattle.cow_dict.specs.Dictionaries.{is_value}
 use Rattle.cow_dict.proofs.Questions.{told}
 use Rattle.cow_treedict.proofs.dictionary.TreeDictionary.has_pair.Goals as goal

@@ -1,4 +1,4 @@
-use Rattle.std.proofs.Common.{◌≡◌, List, sym, ap, ◌∙◌}
+use Rattle.std.proofs.Common.{List, sym, ap, ◌∙◌}
 use Rattle.cow_champ.specs.Words.{alike as alike_in}
 use Rattle.cow_model.specs.Canon.{pairs}
 use Rattle.cow_model.specs.Flat.{Flat}

@@ -1,4 +1,4 @@
-use Rattle.std.proofs.Common.{◌≡◌, ◌<◌, sym, ap, ◌∙◌, subst, arith}
+use Rattle.std.proofs.Common.{sym, ap, ◌∙◌, subst, arith}
 use Rattle.cow_treedict.proofs.Trees.{empty-size, empty-canonical, empty-map}
 use Rattle.cow_treedict.proofs.dictionary.TreeDictionary.new.Goals as goal
 
