@@ -1,5 +1,5 @@
 -- How a call on a node moves a holder.
-use Rattle.std.specs.Prelude.{ℕ, ◌+◌, ◌-◌, ◌*◌, ◌^◌, ◌<◌, ◌≤◌, ◌==◌, List}
+use Rattle.std.specs.Prelude.{ℕ, ◌+◌, ◌-◌, ◌*◌, ◌≤◌, ◌==◌, List}
 use Rattle.cow_model.specs.Canon.{Tree, count_where}
 use Rattle.cow_model.specs.Purse.{Purse}
 use Rattle.cow_model.specs.declared.plain.Literal.{Literal}
@@ -45,9 +45,9 @@ PutsIn w level s o = Spends (put_need level (size s) - unshared o) (w * (size s 
 abbrev pub on_path : (Literal → ℕ) → ℕ → ℕ → List Pair → ℕ
 on_path hash_of level hash ps = 32 * (7 - level) + count_where (λ p. hash_of p.key == hash) ps
 
--- where all hashes are of 32 bits, at most n pairs of weight w are copied
-abbrev pub Copies : (Literal → ℕ) → (w n : ℕ) → (before after : Purse) → Type 0
-Copies hash_of w n before after = ((k : Literal) → hash_of k < 2 ^ 32) → after.copied ≤ before.copied + w * n
+-- at most n pairs of weight w are copied
+abbrev pub Copies : (w n : ℕ) → (before after : Purse) → Type 0
+Copies w n before after = after.copied ≤ before.copied + w * n
 
 -- the spare that `build` takes at a level beside its handle, by the number of pairs
 abbrev pub build_need : ℕ → ℕ → ℕ

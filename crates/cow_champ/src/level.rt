@@ -7,7 +7,7 @@ ghost use Rattle.cow_champ.specs.Words.{size, held, alike, with_pair, Appends};
 ghost use Rattle.cow_champ.specs.Spending.{Own, unshared, CopiesNode, Unshares, put_need, Puts, PutsIn, on_path, Copies, build_need};
 
 use cow_cell::{Counted, Holder, Stock};
-use cow_item::{Item, Key};
+use cow_item::{Equivalent, Item, Key};
 use cow_model::NoMemory;
 use std::alloc::Global;
 use std::mem::replace;
@@ -44,14 +44,14 @@ pub trait Level<K: Key<Q>, V: Item<Q>, Q: Stock>: Sized + Drop {
         ensures whole { IfOk result (λ n. IsWhole n) }
         ensures shape { IfOk result (λ n. shape n ≡ canon K.hash_of [] LEVEL) };
 
-    /// The value under a key; None exactly where no key is the same. Takes no memory.
-    fn find(&self, hash: u32, key: &K) -> Option<&V>
+    /// The value under a key, or under the one that `key` stands for; None exactly where there is none. Takes no memory.
+    fn find<E: Equivalent<K, Q>>(&self, hash: u32, key: &E) -> Option<&V>
         requires stacked { Stacked }
         requires whole { IsWhole self.now }
-        requires hash { hash ≡ K.hash_of (K.plain key.now) }
+        requires hash { hash ≡ K.hash_of (E.sought key.now) }
         requires agree { AgreeBelow K.hash_of LEVEL hash (pairs (shape self.now)) }
         requires canonical { IsCanonical K.hash_of (shape self.now) LEVEL }
-        ensures { option_map (λ v. V.plain v.now) result ≡ held (K.plain key.now) (shape self.now) };
+        ensures { option_map (λ v. V.plain v.now) result ≡ held (E.sought key.now) (shape self.now) };
 
     /// How many keys have this hash. Takes no memory.
     fn hash_count(&self, hash: u32) -> usize
@@ -115,7 +115,7 @@ pub trait Level<K: Key<Q>, V: Item<Q>, Q: Stock>: Sized + Drop {
         ensures handed_back { IfErr result (λ e. (e.1 ≡ key) × (e.2 ≡ value)) }
         ensures kept { OnErr result (shape self.new ≡ shape self.old) }
         ensures spent { PutsIn (K.WEIGHT + V.WEIGHT) LEVEL (shape self.old) (own self.old) h.old h.new }
-        ensures path { Copies K.hash_of (K.WEIGHT + V.WEIGHT)
+        ensures path { Copies (K.WEIGHT + V.WEIGHT)
             (on_path K.hash_of LEVEL hash (pairs (shape self.old)) - (own self.old).held) h.old h.new };
 
     /// Two pairs whose keys differ, put into a node of nothing. Refused, both are handed back.
@@ -168,7 +168,7 @@ pub trait Level<K: Key<Q>, V: Item<Q>, Q: Stock>: Sized + Drop {
     ghost few: { (n : Self) → Stacked → IsWhole n → IsCanonical K.hash_of (shape n) LEVEL → (own n).held + 2 * (own n).linked ≤ size (shape n) };
 
     /// A node has at most 32 entries, or only pairs of one hash.
-    ghost near: { (n : Self) (hash : ℕ) → Stacked → IsWhole n → AgreeBelow K.hash_of LEVEL hash (pairs (shape n)) → hash < 2 ^ 32 → ((k : Literal) → K.hash_of k < 2 ^ 32) → (own n).held ≤ on_path K.hash_of LEVEL hash (pairs (shape n)) };
+    ghost near: { (n : Self) (hash : ℕ) → Stacked → IsWhole n → AgreeBelow K.hash_of LEVEL hash (pairs (shape n)) → hash < 2 ^ 32 → (own n).held ≤ on_path K.hash_of LEVEL hash (pairs (shape n)) };
 
     /// After Ok no other handle shows the node. One atomic load where that was so before; else the node is copied,
     /// and the handle ends.
@@ -183,6 +183,7 @@ pub trait Level<K: Key<Q>, V: Item<Q>, Q: Stock>: Sized + Drop {
         ensures shape { shape node.new.value ≡ shape node.old.value }
         ensures own { own node.new.value ≡ own node.old.value }
         ensures alone { OnOk result (node.new.alone ≡ true) }
+        ensures stays { node.old.alone ≡ true → node.new.alone ≡ true }
         ensures spent { Unshares (K.WEIGHT + V.WEIGHT) (own node.old.value) h.old h.new }
     {
         match node.sole(h) {
@@ -203,6 +204,7 @@ pub trait Level<K: Key<Q>, V: Item<Q>, Q: Stock>: Sized + Drop {
         ensures shape { shape node.new.value ≡ shape node.old.value }
         ensures own { own node.new.value ≡ own node.old.value }
         ensures alone { OnOk result (node.new.alone ≡ true) }
+        ensures stays { node.old.alone ≡ true → node.new.alone ≡ true }
         ensures spent { Unshares (K.WEIGHT + V.WEIGHT) (own node.old.value) h.old h.new }
     {
         let copy = node.get().copy_node(alloc, h)?;
@@ -219,9 +221,10 @@ pub trait Level<K: Key<Q>, V: Item<Q>, Q: Stock>: Sized + Drop {
         }
     }
 
-    /// Ends the handle, and where it was the last one, the node's items and, likewise, its children. Takes no memory.
+    /// Ends the handle, whose unit comes back, and where it was the last one, the node's items and, likewise, its
+    /// children. Takes no memory.
     final fn end(node: Counted<Self, Q>, h: &mut Holder<Q>)
-        ensures spare { h.old.spare ≤ h.new.spare }
+        ensures spare { h.old.spare + 1 ≤ h.new.spare }
         ensures copied { h.new.copied ≡ h.old.copied }
     {
         if let Some(n) = node.end(h) {
@@ -256,8 +259,10 @@ pub trait Level<K: Key<Q>, V: Item<Q>, Q: Stock>: Sized + Drop {
             ≡ with_pair K.hash_of LEVEL (K.plain key) (V.plain value) (shape node.old.value)) }
         ensures handed_back { IfErr result (λ e. (e.1 ≡ key) × (e.2 ≡ value)) }
         ensures kept { OnErr result (shape node.new.value ≡ shape node.old.value) }
+        ensures alone { OnOk result (node.new.alone ≡ true) }
+        ensures stays { node.old.alone ≡ true → node.new.alone ≡ true }
         ensures spent { Puts (K.WEIGHT + V.WEIGHT) LEVEL (shape node.old.value) h.old h.new }
-        ensures path { Copies K.hash_of (K.WEIGHT + V.WEIGHT)
+        ensures path { Copies (K.WEIGHT + V.WEIGHT)
             (on_path K.hash_of LEVEL hash (pairs (shape node.old.value))) h.old h.new }
     {
         if Self::make_sole(node, alloc, h).is_err() {

@@ -41,19 +41,19 @@ pub find-requires-clause-canonical : goal.find-requires-clause-canonical
 find-requires-clause-canonical g c =
     child_canonical g.K.Key.hash_of _ _ _ c.requires.stacked.1 (g.met.C.Level.at_most c.requires.stacked.0) c.requires.canonical c.digit_of-d.result c.digit_of-d.ensures.small _ (here g c)
 
-pub returns-then-same : goal.returns-then-same
-returns-then-same g c =
+pub returns-then-is_sought : goal.returns-then-is_sought
+returns-then-is_sought g c =
     let within_e : c.place.result < length c.args.self.now.entries.items = rw c.place.ensures (entry_place _ c.args.self.now.nodes _ _ _ c.requires.whole.0 c.digit_of-d.ensures.small (sym c.has.ensures ∙ c.if-has.true)) in
-    let e = sym c.same.ensures ∙ c.if-same.true in
+    let e = sym c.is_sought.ensures ∙ c.if-is_sought.true in
     sym (get_entry g.K.Key.hash_of _ _ _ c.requires.stacked.1 (g.met.C.Level.at_most c.requires.stacked.0) c.requires.canonical _ c.digit_of-d.result
     (c.digit_of-d.ensures.digit ∙ ap (λ x. digit x g.row.AT) c.requires.hash) _
     (slots_entry _ _ g.C.Level.shape _ _ _ _ _ (sym c.has.ensures ∙ c.if-has.true) _ c.place.ensures within_e _ c.index-e.ensures)
     ∙ rw e refl)
 
-pub returns-else-same : goal.returns-else-same
-returns-else-same g c =
+pub returns-else-is_sought : goal.returns-else-is_sought
+returns-else-is_sought g c =
     let within_e : c.place.result < length c.args.self.now.entries.items = rw c.place.ensures (entry_place _ c.args.self.now.nodes _ _ _ c.requires.whole.0 c.digit_of-d.ensures.small (sym c.has.ensures ∙ c.if-has.true)) in
-    let e = sym c.same.ensures ∙ c.if-same.false in
+    let e = sym c.is_sought.ensures ∙ c.if-is_sought.false in
     sym (get_entry g.K.Key.hash_of _ _ _ c.requires.stacked.1 (g.met.C.Level.at_most c.requires.stacked.0) c.requires.canonical _ c.digit_of-d.result
     (c.digit_of-d.ensures.digit ∙ ap (λ x. digit x g.row.AT) c.requires.hash) _
     (slots_entry _ _ g.C.Level.shape _ _ _ _ _ (sym c.has.ensures ∙ c.if-has.true) _ c.place.ensures within_e _ c.index-e.ensures)

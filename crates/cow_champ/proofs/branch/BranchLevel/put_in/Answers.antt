@@ -163,14 +163,14 @@ returns-then-has-2-clause-spent g c =
     spends_more _ _ _ _ _ _ (omega (arith, more, one, c.requires.stacked.1, g.met.C.Level.at_most c.requires.stacked.0)) (mul-le-mul_left (g.K.Item.WEIGHT + g.V.Item.WEIGHT) (omega (arith, more, one))) c.put-answer.ensures.spent
 
 pub returns-then-has-2-clause-path : goal.returns-then-has-2-clause-path
-returns-then-has-2-clause-path g c = λ bound.
+returns-then-has-2-clause-path g c =
     let at = slots_of g.K.Item.plain g.V.Item.plain g.C.Level.shape c.args.self.now.data c.args.self.now.nodes c.args.self.now.entries.items c.args.self.now.children.items in
     let t : Pair → Bool = λ p. eqb (g.K.Key.hash_of p.key) c.args.hash in
     let grp = child_group g.K.Key.hash_of at g.row.AT g.C.Level.LEVEL c.requires.stacked.1 (g.met.C.Level.at_most c.requires.stacked.0) c.requires.canonical c.digit_of-d.result c.digit_of-d.ensures.small (g.C.Level.shape (value_of c.index_mut-child.result.now)) (was_here g c) in
     let less : count_where t (pairs (g.C.Level.shape (value_of c.index_mut-child.result.now))) ≤ count_where t (pairs (branch at)) = subst (λ ps. count_where t ps ≤ count_where t (pairs (branch at))) grp (count-group-le g.K.Key.hash_of t g.row.AT c.digit_of-d.result (pairs (branch at))) in
     let few : length c.args.self.now.entries.items ≤ 32 = let r = rank-bound c.args.self.now.data 32 in omega (arith, r, c.requires.whole.0.entries) in
     path_more (g.K.Item.WEIGHT + g.V.Item.WEIGHT) (on_path g.K.Key.hash_of g.C.Level.LEVEL c.args.hash (pairs (g.C.Level.shape (value_of c.index_mut-child.result.now)))) (on_path g.K.Key.hash_of g.row.AT c.args.hash (pairs (branch at)) - length c.args.self.now.entries.items) c.args.h.now.copied c.put-answer.new.h.copied
-    (omega (arith, less, few, c.requires.stacked.1, g.met.C.Level.at_most c.requires.stacked.0)) (c.put-answer.ensures.path bound)
+    (omega (arith, less, few, c.requires.stacked.1, g.met.C.Level.at_most c.requires.stacked.0)) c.put-answer.ensures.path
 
 pub returns-else-is_err-clause-old : goal.returns-else-is_err-clause-old
 returns-else-is_err-clause-old g c =

@@ -17,12 +17,12 @@ returns-clause-canonical g c =
     c.put_in.ensures.new c.put_in.ensures.kept
 
 pub returns-clause-path : goal.returns-clause-path
-returns-clause-path g c = λ bound.
+returns-clause-path g c =
     let w = g.K.Item.WEIGHT + g.V.Item.WEIGHT in
     let on = on_path g.K.Key.hash_of g.Self.Level.LEVEL c.args.hash in
     let s = ap g.Self.Level.shape c.only.ensures.value ∙ c.make_sole.ensures.shape in
     let o = ap g.Self.Level.own c.only.ensures.value ∙ c.make_sole.ensures.own in
-    let near = g.met.Self.Level.near c.args.node.now.value c.args.hash c.requires.stacked c.requires.whole c.requires.agree c.ranges.hash.fits bound in
+    let near = g.met.Self.Level.near c.args.node.now.value c.args.hash c.requires.stacked c.requires.whole c.requires.agree c.ranges.hash.fits in
     path_chain w (g.Self.Level.own c.args.node.now.value).held (on (pairs (g.Self.Level.shape c.args.node.now.value))) c.args.h.now.copied c.make_sole.new.h.copied c.put_in.new.h.copied near c.make_sole.ensures.spent.copied
     (subst (λ y. c.put_in.new.h.copied ≤ c.make_sole.new.h.copied + w * (on (pairs (g.Self.Level.shape c.args.node.now.value)) - y.held)) o
-    (subst (λ t. c.put_in.new.h.copied ≤ c.make_sole.new.h.copied + w * (on (pairs t) - (g.Self.Level.own c.only.result.now).held)) s (c.put_in.ensures.path bound)))
+    (subst (λ t. c.put_in.new.h.copied ≤ c.make_sole.new.h.copied + w * (on (pairs t) - (g.Self.Level.own c.only.result.now).held)) s c.put_in.ensures.path))

@@ -1,0 +1,27 @@
+//! Persistent dictionaries over counted storage, after `TreeDictionary` of swift-collections.
+//!
+//! A [`TreeDictionary`] is a counted root node of a CHAMP trie (`cow_champ`). A copy is one retain and shares all nodes; a
+//! change copies those nodes on the path of its key that others hold, at most 32 pairs a level and the keys of one hash
+//! below them, and shares the rest.
+//!
+//! Contracts see a dictionary as the list of its pairs by ascending key and whether the handle is known to be alone
+//! (`docs/CONTRACTS.md`). A tree has no room: that field is 0. A change takes the memory of its whole path before anything
+//! that is shown changes, so an answer `NoMemory` leaves every value as it was and hands back what was given. The pairs
+//! are read by `get`, by ascending key by `sorted`, or by ascending digits of their hashes by `references`.
+//!
+//! The invariant: the root's node is whole, of level 0, and has the canonical shape of its pairs, whatever the changes
+//! were that led to it; the pairs are counted, and are fewer than 2^31.
+//!
+//! The last parameter of the type is the root's node type. Whatever works on trees is generic in it, and a `Task` of
+//! `cow_champ` makes it; [`Tree`] is the type that it then is.
+//!
+//! `new`, `references`, `sorted` and `update` may always answer want of memory by their contracts; a test shows that they
+//! succeed. How many nodes `update` copies depends on who else holds them, so its contract bounds the copies of an alone
+//! dictionary too, and a test shows that there are none where nobody else holds the trie.
+#![tactic(auto)]
+
+mod dictionary;
+mod tree;
+
+pub use dictionary::TreeDictionary;
+pub use tree::Tree;

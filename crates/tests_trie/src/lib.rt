@@ -1,0 +1,5 @@
+//! Tests of tree collections, by public names. Nothing stands above this crate.
+#![tactic(auto)]
+
+#[cfg(test)]
+mod dictionary;
