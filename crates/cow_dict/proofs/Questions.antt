@@ -114,8 +114,7 @@ pub held-by_key : (ps rs : List Pair) → Distinct ps → Distinct rs → list_a
 held-by_key ps rs d e =
     let t = distinct-ascending (by_key rs) (ascends-by_key rs e) in
     same_from_decides (list_all (holds ps) rs) (list_all (holds (by_key ps)) (by_key rs))
-    (value-held ps rs, all-held ps rs e)
-    (
+    (value-held ps rs, all-held ps rs e) (
       (λ all q v f. sym (value-by_key ps d q) ∙ value-held (by_key ps) (by_key rs) all q v (value-by_key rs e q ∙ f)),
       (λ h. all-held (by_key ps) (by_key rs) t (λ q v f. value-by_key ps d q ∙ h q v (sym (value-by_key rs e q) ∙ f))),
     )

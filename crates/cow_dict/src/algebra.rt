@@ -32,7 +32,10 @@ fn has_pair<K: Key<Q>, V: Key<Q>, Q: Stock>(pairs: &Pairs<K, V>, k: &K, v: &V) -
 }
 
 /// Whether each pair of `others` is one of `pairs`. It ends at the first that isn't.
-pub(crate) fn includes<K: Key<Q>, V: Key<Q>, Q: Stock>(pairs: &Pairs<K, V>, others: &Pairs<K, V>) -> bool
+pub(crate) fn includes<K: Key<Q>, V: Key<Q>, Q: Stock>(
+    pairs: &Pairs<K, V>,
+    others: &Pairs<K, V>,
+) -> bool
     requires whole { AreWhole K.plain K.hash_of K.IsSettled V.IsSettled pairs.now }
     requires others { AreWhole K.plain K.hash_of K.IsSettled V.IsSettled others.now }
     ensures { result ≡ list_all (holds (listed K.plain V.plain pairs.now))

@@ -35,11 +35,11 @@ use Rattle.cow_kinds.proofs.Sets.{length-union, length-union-most, told-of}
 -- ---- lists of pairs are one exactly where they are equal
 both-same : (p q : Pair) → Decides (same_pair p q) (p ≡ q)
 both-same p q = (
-    (λ e.
-    let both = and-both (same p.key q.key) (same p.value q.value) e in
-    ap (λ k. pair_of k p.value) (same-is p.key q.key both.0) ∙ ap (pair_of q.key) (same-is p.value q.value both.1)),
-    (λ e. rw e (ap (λ b. b && same q.value q.value) (itself q.key) ∙ itself q.value)),
-  )
+  (λ e.
+      let both = and-both (same p.key q.key) (same p.value q.value) e in
+      ap (λ k. pair_of k p.value) (same-is p.key q.key both.0) ∙ ap (pair_of q.key) (same-is p.value q.value both.1)),
+  (λ e. rw e (ap (λ b. b && same q.value q.value) (itself q.key) ∙ itself q.value)),
+)
 
 pub tells-pairs : (r : Bool) (ps rs : List Pair) → Decides r (ps ≡ rs) → r ≡ same_pairs ps rs
 tells-pairs r ps rs d = same_from_decides r (same_pairs ps rs) d (pointwise_decides both-same ps rs)
@@ -177,17 +177,17 @@ lacks-all k (p ∷ ps) = on_side (same k p.key)
 
 put-same : (r : Bool) (p : Pair) (ps : List Pair) → Ascends (keys ps) → Decides r (value_in p.key ps ≡ Some p.value) → r ≡ same_pairs ps (put in_order ps p)
 put-same r p ps s d = tells-pairs r ps (put in_order ps p) (
-    (λ t. same-map ps (put in_order ps p) s (ascends-put p ps s) (λ q. on_side (same q p.key)
-    (λ e. ap (λ k. value_in k ps) (same-is q p.key e) ∙ d.0 t ∙ sym (value-put p ps (distinct-ascending ps s) q ∙ ap (λ b. choice b (Some p.value) (value_in q ps)) e))
-    (λ e. sym (value-put p ps (distinct-ascending ps s) q ∙ ap (λ b. choice b (Some p.value) (value_in q ps)) e)))),
-    (λ e. d.1 (ap (value_in p.key) e ∙ value-put p ps (distinct-ascending ps s) p.key ∙ ap (λ b. choice b (Some p.value) (value_in p.key ps)) (itself p.key))),
-  )
+  (λ t. same-map ps (put in_order ps p) s (ascends-put p ps s) (λ q. on_side (same q p.key)
+      (λ e. ap (λ k. value_in k ps) (same-is q p.key e) ∙ d.0 t ∙ sym (value-put p ps (distinct-ascending ps s) q ∙ ap (λ b. choice b (Some p.value) (value_in q ps)) e))
+      (λ e. sym (value-put p ps (distinct-ascending ps s) q ∙ ap (λ b. choice b (Some p.value) (value_in q ps)) e)))),
+  (λ e. d.1 (ap (value_in p.key) e ∙ value-put p ps (distinct-ascending ps s) p.key ∙ ap (λ b. choice b (Some p.value) (value_in p.key ps)) (itself p.key))),
+)
 
 keeps-same : (r : Bool) (ps rs : List Pair) → Ascends (keys rs) → Decides r (lacking (keys ps) (keys rs) ≡ 0) → r ≡ same_pairs ps (merge in_order false ps rs)
 keeps-same r ps rs s d = tells-pairs r ps (merge in_order false ps rs) (
-    (λ t. none-comes ps rs (d.0 t)),
-    (λ e. d.1 (omega (arith, ap length e, length-merge false ps rs s))),
-  )
+  (λ t. none-comes ps rs (d.0 t)),
+  (λ e. d.1 (omega (arith, ap length e, length-merge false ps rs s))),
+)
   where
     none-comes : (ps rs : List Pair) → lacking (keys ps) (keys rs) ≡ 0 → ps ≡ merge in_order false ps rs
     none-comes ps [] n = refl
@@ -224,18 +224,18 @@ parts-remove told k ps s h =
 -- the same by what was found under the key
 pub parts-put-there : (told r : Bool) (p : Pair) (w : Literal) (ps : List Pair) → Ascends (keys ps) → Some w ≡ value_in p.key ps → Decides r (w ≡ p.value) → told ≡ not r → tells_of told (keyed p.key (operation.put p)) (Dict ps) (operation.fitting (operation.put p (Dict ps)))
 parts-put-there told r p w ps s e d h = parts-put told r p ps s (
-    (λ t. sym e ∙ ap (λ (v : Literal). Some v) (d.0 t)),
-    (λ f. d.1 (inner w p.value (e ∙ f))),
-  ) h
+  (λ t. sym e ∙ ap (λ (v : Literal). Some v) (d.0 t)),
+  (λ f. d.1 (inner w p.value (e ∙ f))),
+) h
   where
     inner : (x y : Literal) → Some x ≡ Some y → x ≡ y
     inner x y e = cc
 
 pub parts-put-absent : (p : Pair) (ps : List Pair) → Ascends (keys ps) → None ≡ value_in p.key ps → tells_of true (keyed p.key (operation.put p)) (Dict ps) (operation.fitting (operation.put p (Dict ps)))
 parts-put-absent p ps s e = parts-put true false p ps s (
-    (λ t. absurd (true≢false (sym t))),
-    (λ f. absurd (true≢false (sym (ap is_some (e ∙ f))))),
-  ) refl
+  (λ t. absurd (true≢false (sym t))),
+  (λ f. absurd (true≢false (sym (ap is_some (e ∙ f))))),
+) refl
 
 pub parts-remove-there : (k w : Literal) (ps : List Pair) → Ascends (keys ps) → Some w ≡ value_in k ps → tells_of true (keyed k (operation.remove k)) (Dict ps) (operation.fitting (operation.remove k (Dict ps)))
 parts-remove-there k w ps s e = parts-remove true k ps s (sym (has-member k ps ∙ member-value k ps ∙ ap is_some (sym e)))

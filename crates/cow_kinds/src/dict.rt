@@ -246,10 +246,7 @@ fn merge<T: Element<Q>, Q: Stock>(
 }
 
 /// Whether `merge N M keep` leaves it alone.
-fn keep_parts<T: Element<Q>, Q: Stock>(
-    d: &Dictionary<T, T, Q>,
-    other: &Dictionary<T, T, Q>,
-) -> bool
+fn keep_parts<T: Element<Q>, Q: Stock>(d: &Dictionary<T, T, Q>, other: &Dictionary<T, T, Q>) -> bool
     ensures { TellsParts result (whole (λ v. spec.merge false v (plain.Dict other.now.value)))
         (plain.Dict d.now.value) }
 {
@@ -257,10 +254,7 @@ fn keep_parts<T: Element<Q>, Q: Stock>(
 }
 
 /// Whether `merge N M take` leaves it alone.
-fn take_parts<T: Element<Q>, Q: Stock>(
-    d: &Dictionary<T, T, Q>,
-    other: &Dictionary<T, T, Q>,
-) -> bool
+fn take_parts<T: Element<Q>, Q: Stock>(d: &Dictionary<T, T, Q>, other: &Dictionary<T, T, Q>) -> bool
     ensures { TellsParts result (whole (λ v. spec.merge true v (plain.Dict other.now.value)))
         (plain.Dict d.now.value) }
 {
@@ -471,7 +465,9 @@ impl<T: Element<Q>, Q: Stock> Collection<Value<T, Q>, Q> for Dictionary<T, T, Q>
 
     fn refusal_by(&self, statement: &Statement, other: &Value<T, Q>) -> Option<Refusal> {
         match (statement, other) {
-            (Statement::Merge { take, .. }, Value::Dict(other)) => merge_refusal(self, other, *take),
+            (Statement::Merge { take, .. }, Value::Dict(other)) => merge_refusal(
+                self, other, *take,
+            ),
             (Statement::Within { .. }, Value::Set(_)) => None,
             _ => Some(Refusal::WrongKind),
         }
