@@ -41,14 +41,14 @@ module _ (f : Literal → Bool) where
 
   module _ (w : ℕ) (alone : Bool) (ps : List Pair) (h h' : Purse) where
     -- a change that brings nothing in
-    pub moved-alone : (u a : ℕ) → w ≡ 1 → Moves (sum_by (pair_units f) ps) (copies alone ((w + w) * length ps)) h h' → Moves (2 * sum_by (pair_units f) ps + u) (own_cost_of alone (Dict ps) + a) h h'
+    pub moved-alone : (u a : ℕ) → w ≡ 1 → Moves (sum_by (pair_units f) ps) (copies alone ((w + w) * length ps)) h h' → Moves (2 * (0 + sum_by (pair_units f) ps) + u) (own_cost_of alone (Dict ps) + a) h h'
     moved-alone u a e m =
         let c = light w alone ps e in
         record { falls = omega (arith, m.falls); rises = omega (arith, m.rises); copied = omega (arith, m.copied, c); kept = m.kept }
 
     -- one that brings copies of other pairs in
     pub moved-with : (rs : List Pair) → w ≡ 1 → Moves (sum_by (pair_units f) (ps ++ rs)) (copies alone ((w + w) * length ps) + (w + w) * length rs) h h'
-        → Moves (2 * sum_by (pair_units f) ps + sum_by (pair_units f) rs) (own_cost_of alone (Dict ps) + 2 * length rs) h h'
+        → Moves (2 * (0 + sum_by (pair_units f) ps) + sum_by (pair_units f) rs) (own_cost_of alone (Dict ps) + 2 * length rs) h h'
     moved-with rs e m =
         let c = light w alone ps e in
         let d : (w + w) * length rs ≡ 2 * length rs = ap (λ n. (n + n) * length rs) e in
