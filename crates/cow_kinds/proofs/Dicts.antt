@@ -1,6 +1,6 @@
 -- What the statements on dictionaries leave, in the words of the collection, and when they leave one the same.
 use Rattle.std.proofs.Common.{◌≡◌, ℕ, zero, suc, ◌+◌, ◌<◌, ◌≤◌, ◌≢◌, length, map, List, [], ◌∷◌, Bool, true, false, not, ◌||◌, ◌&&◌, cond, filter, fold, take, drop, remove, slice_get, count_by, Option, Some, None, refl, sym, ap, ◌∙◌, subst, codes, arith}
-use Rattle.std.specs.Prelude.{nat_lt, position}
+use Rattle.std.specs.Prelude.{is_some, nat_lt}
 use Rattle.std.specs.List.{list_all, prefix_len}
 use Rattle.std.specs.Bool.{Decides}
 use Rattle.std.specs.Cmp.Lexicographic.{pointwise_decides}
@@ -220,6 +220,28 @@ parts-remove told k ps s h =
     twice : (b : Bool) → not (not b) ≡ b
     twice true = refl
     twice false = refl
+
+-- the same by what was found under the key
+pub parts-put-there : (told r : Bool) (p : Pair) (w : Literal) (ps : List Pair) → Ascends (keys ps) → Some w ≡ value_in p.key ps → Decides r (w ≡ p.value) → told ≡ not r → tells_of told (keyed p.key (operation.put p)) (Dict ps) (operation.fitting (operation.put p (Dict ps)))
+parts-put-there told r p w ps s e d h = parts-put told r p ps s (
+  (λ t. sym e ∙ ap (λ (v : Literal). Some v) (d.0 t)),
+  (λ f. d.1 (inner w p.value (e ∙ f))),
+) h
+  where
+    inner : (x y : Literal) → Some x ≡ Some y → x ≡ y
+    inner x y e = cc
+
+pub parts-put-absent : (p : Pair) (ps : List Pair) → Ascends (keys ps) → None ≡ value_in p.key ps → tells_of true (keyed p.key (operation.put p)) (Dict ps) (operation.fitting (operation.put p (Dict ps)))
+parts-put-absent p ps s e = parts-put true false p ps s (
+  (λ t. absurd (true≢false (sym t))),
+  (λ f. absurd (true≢false (sym (ap is_some (e ∙ f))))),
+) refl
+
+pub parts-remove-there : (k w : Literal) (ps : List Pair) → Ascends (keys ps) → Some w ≡ value_in k ps → tells_of true (keyed k (operation.remove k)) (Dict ps) (operation.fitting (operation.remove k (Dict ps)))
+parts-remove-there k w ps s e = parts-remove true k ps s (sym (has-member k ps ∙ member-value k ps ∙ ap is_some (sym e)))
+
+pub parts-remove-absent : (k : Literal) (ps : List Pair) → Ascends (keys ps) → None ≡ value_in k ps → tells_of false (keyed k (operation.remove k)) (Dict ps) (operation.fitting (operation.remove k (Dict ps)))
+parts-remove-absent k ps s e = parts-remove false k ps s (sym (has-member k ps ∙ member-value k ps ∙ ap is_some (sym e)))
 
 pub parts-keep : (told r : Bool) (ps rs : List Pair) → Ascends (keys rs) → Decides r (lacking (keys ps) (keys rs) ≡ 0) → told ≡ not r → tells_of told (whole (λ v. operation.merge false v (Dict rs))) (Dict ps) (operation.fitting (operation.merge false (Dict ps) (Dict rs)))
 parts-keep told r ps rs s d h = told-of told (whole (λ v. operation.merge false v (Dict rs))) (Dict ps) (Dict (merge in_order false ps rs)) [] (h ∙ ap not (keeps-same r ps rs s d))

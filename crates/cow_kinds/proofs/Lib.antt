@@ -1,4 +1,5 @@
 pub mod Alike
+pub mod DictCosts
 pub mod Dicts
 pub mod Equals
 pub mod Heaps

@@ -16,7 +16,8 @@ ghost use Rattle.cow_model.specs.Units.{pair_units};
 ghost use Rattle.cow_model.specs.declared.statement.Kind.TheVariants as kind;
 ghost use Rattle.cow_model.specs.declared.value.Plain.TheVariants as plain;
 ghost use Rattle.cow_dict.specs.Dictionaries.{comes, has, takes};
-ghost use Rattle.cow_dict.specs.Storages.{pair_of};
+ghost use Rattle.cow_dict.specs.Storages.{keys, pair_of};
+ghost use Rattle.cow_members.specs.Ascents.{Ascends};
 ghost use Rattle.cow_kinds.specs.Dicts.{Puts, pairs_given};
 ghost use Rattle.cow_kinds.specs.Values.{dict, lent, keeps_kind};
 ghost use Rattle.cow_value.specs.Calls.{IsReady, Does, Costs, Made};
@@ -51,6 +52,7 @@ fn put_value<T: Element<Q>, Q: Stock>(
     key: &Literal,
     text: &mut Vec<u8>,
 ) -> Result<(), NoMemory>
+    ensures distinct { Ascends (keys d.now.value) }
     ensures ok { OnOk result
         (text.new.items ≡ text.old.items ++ line (spec.value_under key.now d.now.value)) }
     ensures err { OnErr result (text.new.items ≡ text.old.items) }
@@ -260,6 +262,7 @@ fn take_parts<T: Element<Q>, Q: Stock>(d: &Dictionary<T, T, Q>, other: &Dictiona
 }
 
 /// `within N M`
+#[tactic(auto, using(crate::proofs::Dicts::length_within))]
 fn within<T: Element<Q>, Q: Stock>(
     d: &mut Dictionary<T, T, Q>,
     members: &Set<T, Q>,
