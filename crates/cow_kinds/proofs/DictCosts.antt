@@ -57,3 +57,28 @@ module _ (f : Literal → Bool) where
 
     pub falls-with : (rs : List Pair) (c : ℕ) → Moves (sum_by (pair_units f) (ps ++ rs)) c h h' → h.spare ≤ h'.spare + (2 * length ps + 2 * length rs)
     falls-with rs c m = omega (arith, m.falls, sum_by-append (pair_units f) ps rs, units-most ps, units-most rs)
+
+    -- one that hands a value out, which is ended
+    module _ (h3 : Purse) (x : ℕ) (back : h3.spare ≡ h'.spare + x) (still : h3.copied ≡ h'.copied) (held : x ≤ sum_by (pair_units f) ps) where
+      pub moved-ended : (u a : ℕ) → w ≡ 1 → Moves (sum_by (pair_units f) ps) (copies alone ((w + w) * length ps)) h h' → Moves (2 * (0 + sum_by (pair_units f) ps) + u) (own_cost_of alone (Dict ps) + a) h h3
+      moved-ended u a e m =
+          let c = light w alone ps e in
+          record { falls = omega (arith, back, m.falls); rises = omega (arith, back, held, m.rises); copied = omega (arith, still, m.copied, c); kept = omega (arith, still, m.kept) }
+
+    -- one before which a pair was read, and behind which a value is ended
+    module _ (h0 h3 : Purse) (p : Pair) (x : ℕ)
+        (read : h.spare + pair_units f p ≡ h0.spare) (more : h.copied ≤ h0.copied + 2) (never : h0.copied ≤ h.copied)
+        (back : h3.spare ≡ h'.spare + x) (still : h3.copied ≡ h'.copied) (held : x ≤ sum_by (pair_units f) ps) where
+      pub put-moved : w ≡ 1 → Moves (sum_by (pair_units f) ps) (copies alone ((w + w) * length ps)) h h'
+          → Moves (2 * sum_by (pair_units f) ps + pair_units f p) (copies alone (2 * length ps) + 2) h0 h3
+      put-moved e m =
+          let c : copies alone ((w + w) * length ps) ≡ copies alone (2 * length ps) = ap (λ n. copies alone ((n + n) * length ps)) e in
+          record {
+            falls = omega (arith, read, back, m.falls);
+            rises = omega (arith, read, back, held, m.rises);
+            copied = omega (arith, more, still, m.copied, c);
+            kept = omega (arith, never, still, m.kept);
+          }
+
+      pub put-falls : (c : ℕ) → Moves (sum_by (pair_units f) ps) c h h' → h0.spare ≤ h3.spare + (2 * length ps + 2)
+      put-falls c m = omega (arith, read, back, m.falls, units-most ps, unit_if-le (f p.key), unit_if-le (f p.value))

@@ -1,6 +1,6 @@
 -- What the statements on dictionaries leave, in the words of the collection, and when they leave one the same.
-use Rattle.std.proofs.Common.{◌≡◌, ℕ, zero, suc, ◌+◌, ◌<◌, ◌≤◌, ◌≢◌, length, map, List, [], ◌∷◌, Bool, true, false, not, ◌||◌, ◌&&◌, cond, filter, fold, take, drop, remove, slice_get, count_by, Option, Some, None, refl, sym, ap, ◌∙◌, subst, codes, arith}
-use Rattle.std.specs.Prelude.{is_some, nat_lt}
+use Rattle.std.proofs.Common.{◌≡◌, ℕ, zero, suc, ◌+◌, ◌<◌, ◌≤◌, ◌≢◌, length, map, List, [], ◌∷◌, ◌++◌, Bool, true, false, not, ◌||◌, ◌&&◌, cond, filter, fold, take, drop, remove, slice_get, count_by, Option, Some, None, Ok, Err, refl, sym, ap, ◌∙◌, subst, codes, arith}
+use Rattle.std.specs.Prelude.{is_some, nat_le, nat_lt}
 use Rattle.std.specs.List.{list_all, prefix_len}
 use Rattle.std.specs.Bool.{Decides}
 use Rattle.std.specs.Cmp.Lexicographic.{pointwise_decides}
@@ -21,14 +21,20 @@ use Rattle.cow_model.specs.Members.{member, union, with_member}
 use Rattle.cow_model.specs.Operation as operation
 use Rattle.cow_model.specs.Order.{same}
 use Rattle.cow_model.specs.Pairs.{in_order, merge, place_in, put, put_new, value_in, within}
-use Rattle.cow_model.specs.Plain.{same_pair, same_pairs}
+use Rattle.cow_model.specs.Answers.{is_refused, reply_of, value_after, verdict}
+use Rattle.cow_model.specs.Flat.{Flat}
+use Rattle.cow_model.specs.Lexis.{Text}
+use Rattle.cow_model.specs.Plain.{count, max_count, same_pair, same_pairs}
 use Rattle.cow_model.specs.Printed.{line, atom_text, nil_or}
 use Rattle.cow_model.specs.Turns.{keyed, tells_of, whole}
 use Rattle.cow_model.specs.declared.plain.Literal.{Literal}
 use Rattle.cow_model.specs.declared.value.Pair.{Pair}
 use Rattle.cow_model.specs.declared.value.Plain.TheVariants.{Dict, Set}
 use Rattle.cow_members.proofs.Operations.{lacking-there, lacking-more}
-use Rattle.cow_members.specs.Sets.{lacking}
+use Rattle.cow_members.specs.Sets.{lacking, ChangesTo}
+use Rattle.cow_model.specs.declared.refusal.Refusal.TheVariants.{Full}
+use Rattle.cow_value.specs.Calls.{Does}
+use Rattle.cow_kinds.specs.Values.{dict}
 use Rattle.cow_kinds.proofs.Equals.{one-or-not}
 use Rattle.cow_kinds.proofs.Sets.{length-union, length-union-most, told-of}
 
@@ -105,6 +111,34 @@ removes k ps s = on_side (member k (keys ps))
     ∙ ap (λ o. operation.replies (nil_or atom_text o) (Dict ps)) (sym (value-none k ps m))
     ∙ ap (λ l. operation.replies (operation.value_under k ps) (Dict l)) (sym (none-goes k ps m)))
 
+-- ---- `remove`, from what the call of the collection does
+length-without : (k : Literal) (ps : List Pair) → length (without k ps) ≤ length ps
+length-without k ps = omega (arith, length-filter (λ p. not (same p.key k)) ps, count_by-le-length (λ p. not (same p.key k)) ps)
+
+pub removed-answer : (k : Literal) (ps : List Pair) → Ascends (keys ps) → length ps ≤ max_count →
+    operation.fitting (operation.remove k (Dict ps)) ≡ operation.replies (operation.value_under k ps) (Dict (without k ps))
+removed-answer k ps s n =
+    let fits : nat_le (count (Dict (without k ps))) max_count ≡ true = grind (arith, length-without k ps, n) in
+    ap operation.fitting (removes k ps s)
+    ∙ ap (λ b. cond {A = operation.Answer} b (operation.replies (operation.value_under k ps) (Dict (without k ps))) (Err Full)) fits
+
+module _ (k : Literal) (before after : Flat (List Pair)) (s : Ascends (keys before.value)) (n : length before.value ≤ max_count) where
+  pub does-remove : (text text' : Text) → ChangesTo (without k before.value) before after → text' ≡ text ++ line (operation.value_under k before.value)
+      → Does (keyed k (operation.remove k)) (dict before) (dict after) text text' (Ok (Ok tt))
+  does-remove text text' c t =
+      let answer = removed-answer k before.value s n in
+      record {
+        told = subst (λ a. Ok tt ≡ verdict a) (sym answer) refl;
+        value = subst (λ a. Dict after.value ≡ value_after (Dict before.value) a) (sym answer) (ap Dict c.value);
+        reply = subst (λ a. text' ≡ text ++ reply_of a) (sym answer) t;
+        kept = tt;
+        alone = λ e. grind (arith, c.handle, e);
+        parted = λ p. grind (arith, c.handle);
+      }
+
+  pub never-refused : is_refused (operation.fitting (operation.remove k (Dict before.value))) ≡ true → {X : Type 0} → X
+  never-refused e = absurd (true≢false (sym e ∙ ap is_refused (removed-answer k before.value s n)))
+
 -- ---- the keys of what is put
 keys-put : (p : Pair) (ps : List Pair) → keys (put in_order ps p) ≡ with_member members.in_order (keys ps) p.key
 keys-put p ps = on_side (member p.key (keys ps))
@@ -138,6 +172,9 @@ length-put p ps = on_side (member p.key (keys ps))
     (λ m.
     let new : comes p.key ps ≡ 1 = ap (λ t. cond t 0 1) (has-member p.key ps ∙ m) in
     omega (arith, new, count-keys (put in_order ps p), count-keys ps, length-merge-most true ps (p ∷ [])))
+
+pub length-put-most : (p : Pair) (ps : List Pair) → length (put in_order ps p) ≤ length ps + 1
+length-put-most p ps = length-merge-most true ps (p ∷ [])
 
 pub length_within : (ps : List Pair) (v : List Literal) → length (within ps v) ≤ length ps
 length_within ps v = omega (arith, length-filter (λ p. member p.key v) ps, count_by-le-length (λ p. member p.key v) ps)

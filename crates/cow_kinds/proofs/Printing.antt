@@ -1,10 +1,11 @@
--- How the printed form of a list grows by one element.
-use Rattle.std.proofs.Common.{◌≡◌, ℕ, ◌+◌, List, ◌∷◌, ◌++◌, map, drop, Some, slice_get, refl, arith}
+-- How the printed forms of lists and pairs are made up.
+use Rattle.std.proofs.Common.{◌≡◌, ℕ, ◌+◌, ◌≤◌, List, [], ◌∷◌, ◌++◌, length, map, drop, Some, slice_get, get_or, codes, refl, sym, ap, ◌∙◌, arith}
 use Rattle.std.proofs.lemmas.Option.{slice_get_within, get_or_from_slice_get}
 use Rattle.std.proofs.lemmas.List.{drop_more}
 use Rattle.std.proofs.lemmas.Grind.{common_steps}
 use Rattle.std.specs.List.{flat_map}
-use Rattle.cow_model.specs.Printed.{behind_comma}
+use Rattle.cow_model.specs.Printed.{behind_comma, pair_text, pairs_text}
+use Rattle.cow_model.specs.declared.value.Pair.{Pair}
 
 -- a list from an element on
 pub drop-next : {A : Type 0} (xs : List A) (i : ℕ) (x : A) → slice_get xs i ≡ Some x → drop i xs ≡ x ∷ drop (i + 1) xs
@@ -17,3 +18,15 @@ pub printed-next : {A : Type 0} (f : A → List ℕ) (xs : List A) (i : ℕ) (x 
 printed-next f xs i x text more whole e before grown =
     let w = rw (drop-next xs i x e) at before in
     rw grown (grind (arith, common_steps, w))
+
+fused : {A : Type 0} (f : A → Pair) (xs : List A) → map pair_text (map f xs) ≡ map (λ x. pair_text (f x)) xs
+fused f [] = refl
+fused f (x ∷ xs) = ap (λ l. pair_text (f x) ∷ l) (fused f xs)
+
+-- pairs of which there is a first one x
+pub shows-pairs : {A : Type 0} (f : A → Pair) (xs : List A) (x : A) → 1 ≤ length xs → x ≡ get_or xs 0 x →
+    pairs_text (map f xs) ≡ codes "[" ++ (pair_text (f x) ++ flat_map behind_comma (map (λ y. pair_text (f y)) (drop 1 xs))) ++ codes "]"
+shows-pairs f [] x n e = absurd (omega (arith, n))
+shows-pairs f (y ∷ ys) x n e =
+    ap (λ l. codes "[" ++ (pair_text (f y) ++ flat_map behind_comma l) ++ codes "]") (fused f ys)
+    ∙ ap (λ z. codes "[" ++ (pair_text (f z) ++ flat_map behind_comma (map (λ w. pair_text (f w)) ys)) ++ codes "]") (sym e)

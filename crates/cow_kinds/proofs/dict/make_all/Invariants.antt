@@ -1,4 +1,4 @@
-use Rattle.std.proofs.Common.{◌≡◌, ◌≤◌, ◌+◌, ◌*◌, All, fold, length, true}
+use Rattle.std.proofs.Common.{◌≡◌, ◌≤◌, ◌+◌, [], All, fold, length, true}
 use Rattle.std.specs.List.{sum_by}
 use Rattle.cow_model.specs.Literals.{FitsText}
 use Rattle.cow_model.specs.Pairs.{in_order, paired, put}
@@ -6,8 +6,8 @@ use Rattle.cow_model.specs.Units.{pair_units}
 use Rattle.cow_kinds.proofs.dict.make_all.Given as goal
 
 -- the pairs of the literals to come, put into the dictionary so far, are those of all; nothing is counted
-abbrev pub invariant-loop-others : goal.invariant-loop-others
-invariant-loop-others g l =
+abbrev pub invariant-loop-rest : goal.invariant-loop-rest
+invariant-loop-rest g l =
     record {
       value : fold (put in_order) l.d.value (paired l.rest) ≡ fold (put in_order) [] (paired l.fn.literals);
       texts : All FitsText l.rest;
@@ -17,5 +17,5 @@ invariant-loop-others g l =
       copied : l.h.copied ≡ l.fn.h.copied;
     }
 
-abbrev pub decreases-loop-others : goal.decreases-loop-others
-decreases-loop-others g l = length l.rest
+abbrev pub decreases-loop-rest : goal.decreases-loop-rest
+decreases-loop-rest g l = length l.rest
