@@ -237,7 +237,8 @@ pub trait Level<K: Key<Q>, V: Item<Q>, Q: Stock>: Sized + Drop {
     ///
     /// A node on the path whose handle is the only one is changed in place. Of any other the handle gets a node of
     /// its own, whose children are shared and whose items are copied. All memory of the new path is taken before
-    /// anything that is shown changes; refused, the shape is as it was, and key and value are handed back.
+    /// anything that is shown changes; refused, the shape is as it was, and key and value are handed back. After Ok the
+    /// handle is alone, and one that was alone stays so.
     final fn put(
         node: &mut Counted<Self, Q>,
         alloc: Global,
