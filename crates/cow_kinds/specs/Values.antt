@@ -7,7 +7,7 @@ use Rattle.cow_model.specs.Flat.{Flat}
 use Rattle.cow_model.specs.Sharing.{Layer}
 use Rattle.cow_model.specs.declared.plain.Literal.{Literal}
 use Rattle.cow_model.specs.declared.statement.Statement.TheOpen.{Statement-F}
-use Rattle.cow_model.specs.declared.value.Plain.TheVariants.{Array, Slice, Set, Heap}
+use Rattle.cow_model.specs.declared.value.Plain.TheVariants.{Array, Slice, Set, OSet, Heap}
 use Rattle.cow_value.specs.Seen.{Seen, Brings}
 
 -- an array
@@ -22,6 +22,10 @@ slice s = record { value = Slice s.value.start s.value.items; alone = s.alone; h
 abbrev pub set : Flat (List Literal) → Seen
 set s = record { value = Set s.value; alone = s.alone; hidden = 0 }
 
+-- an ordered set
+abbrev pub ordered : Flat (List Literal) → Seen
+ordered s = record { value = OSet s.value; alone = s.alone; hidden = 0 }
+
 -- a heap
 abbrev pub heap : Flat (List Literal) → Seen
 heap s = record { value = Heap s.value; alone = s.alone; hidden = 0 }
@@ -35,6 +39,7 @@ abbrev pub seen : {T Q : Type 0} → Value T Q → Seen
 seen (variants.Array a) = array a
 seen (variants.Slice s) = slice s
 seen (variants.Set s) = set s
+seen (variants.OSet s) = ordered s
 seen (variants.Heap s) = heap s
 
 -- `rebase` gives a value of another kind, so no kind does it by itself

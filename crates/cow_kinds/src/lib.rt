@@ -19,6 +19,7 @@ mod heap;
 mod keeps;
 mod lines;
 mod listed;
+mod ordered;
 mod positions;
 mod queries;
 mod reading;

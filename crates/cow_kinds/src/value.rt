@@ -4,11 +4,12 @@ ghost use Rattle.std.specs.Prelude.{true};
 ghost use Rattle.cow_kinds.specs.Values as values;
 
 use crate::element::Element;
-use crate::{array, heap, set, slice};
+use crate::{array, heap, ordered, set, slice};
 use cow_array::{Array, ArraySlice};
 use cow_cell::{Holder, Stock};
 use cow_heap::Heap;
 use cow_model::{Kind, Literal, NoMemory, Refusal, Statement};
+use cow_ordered::OrderedSet;
 use cow_set::Set;
 use cow_value::{Collection, Shown, Values};
 use std::alloc::Global;
@@ -19,6 +20,7 @@ pub enum Value<T: Element<Q>, Q: Stock> {
     Array(Array<T, Q>),
     Slice(ArraySlice<T, Q>),
     Set(Set<T, Q>),
+    OSet(OrderedSet<T, Q>),
     Heap(Heap<T, Q>),
 }
 
@@ -29,6 +31,7 @@ macro_rules! each {
             Value::Array($it) => $call,
             Value::Slice($it) => $call,
             Value::Set($it) => $call,
+            Value::OSet($it) => $call,
             Value::Heap($it) => $call,
         }
     };
@@ -41,6 +44,7 @@ macro_rules! alike {
             Value::Array($it) => Value::Array($call),
             Value::Slice($it) => Value::Slice($call),
             Value::Set($it) => Value::Set($call),
+            Value::OSet($it) => Value::OSet($call),
             Value::Heap($it) => Value::Heap($call),
         }
     };
@@ -157,6 +161,7 @@ impl<T: Element<Q>, Q: Stock> Values<Q> for Value<T, Q> {
         match kind {
             Kind::Array => Ok(Value::Array(array::make(alloc, atoms, h)?)),
             Kind::Set => Ok(Value::Set(set::make(alloc, atoms, h)?)),
+            Kind::OSet => Ok(Value::OSet(ordered::make(alloc, atoms, h)?)),
             Kind::Heap => Ok(Value::Heap(heap::make(alloc, atoms, h)?)),
             _ => unreachable!(),
         }

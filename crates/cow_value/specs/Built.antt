@@ -10,6 +10,7 @@ use Rattle.cow_model.specs.declared.statement.Statement.TheOpen.{Statement-F}
 abbrev pub is_built_kind : Kind → Bool
 is_built_kind kind.Array = true
 is_built_kind kind.Set = true
+is_built_kind kind.OSet = true
 is_built_kind kind.Heap = true
 is_built_kind k = false
 
@@ -17,9 +18,6 @@ is_built_kind k = false
 abbrev pub unbuilt_at : Layer → Option ℕ
 unbuilt_at (Statement-F.Let l n k atoms) = if is_built_kind k then None else Some l
 unbuilt_at (Statement-F.Prepend l n a) = Some l
-unbuilt_at (Statement-F.RemoveAt l n i) = Some l
-unbuilt_at (Statement-F.At l n i) = Some l
-unbuilt_at (Statement-F.Place l n a) = Some l
 unbuilt_at (Statement-F.Rotate l n c) = Some l
 unbuilt_at (Statement-F.Put l n k v) = Some l
 unbuilt_at (Statement-F.Merge l n m take) = Some l

@@ -49,13 +49,10 @@ pub fn unbuilt_line(statement: &Statement) -> Option<u64>
 {
     match statement {
         Statement::Let { line, kind, .. } => match kind {
-            Kind::Array | Kind::Set | Kind::Heap => None,
+            Kind::Array | Kind::Set | Kind::OSet | Kind::Heap => None,
             _ => Some(*line),
         },
         Statement::Prepend { line, .. }
-        | Statement::RemoveAt { line, .. }
-        | Statement::At { line, .. }
-        | Statement::Place { line, .. }
         | Statement::Rotate { line, .. }
         | Statement::Put { line, .. }
         | Statement::Merge { line, .. }
