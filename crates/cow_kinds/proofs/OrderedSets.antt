@@ -4,7 +4,7 @@ use Rattle.std.specs.Prelude.{nat_lt}
 use Rattle.std.specs.Bool.{Decides}
 use Rattle.std.proofs.lemmas.Bool.{true≢false}
 use Rattle.std.proofs.lemmas.List.{length-append, length_push}
-use Rattle.std.proofs.lemmas.List.Edits.{length-insert, insert_end}
+use Rattle.std.proofs.lemmas.List.Edits.{length-insert, length-remove, insert_end}
 use Rattle.std.proofs.lemmas.List.Sums.{count_by-le-length, length-filter}
 use Rattle.cow_members.proofs.Ascents.{each-all, itself, member-filter, member-last, member-union}
 use Rattle.cow_members.proofs.Listed.{Distinct, place-none, symdiff-parts, toggled-nothing, union-none, union-parts}
@@ -102,9 +102,10 @@ shorter v w short = tells-same false v w ((λ t. absurd (true≢false (sym t))),
 comes-told : (told : Bool) (t : Turn) (m : Bool) (there new : Text) (v w : List Literal) → t.parts (OSet v) ≡ true → told ≡ not m → length w ≡ length v + 1
     → tells_of told t (OSet v) (operation.fitting (cond {A = operation.Answer} m (operation.replies there (OSet v)) (operation.replies new (OSet w))))
 comes-told told t m there new v w parts h long =
-    elim m as (λ b. told ≡ not b → same_items v (cond b v w) ≡ b → tells_of told t (OSet v) (operation.fitting (cond {A = operation.Answer} b (operation.replies there (OSet v)) (operation.replies new (OSet w)))))
-    [ true ↦ (λ h e. told-of told t (OSet v) (OSet v) (line there) (h ∙ sym (ap not e) ∙ ap (λ p. p && not (same_items v v)) (sym parts)))
-    | false ↦ (λ h e. told-of told t (OSet v) (OSet w) (line new) (h ∙ sym (ap not e) ∙ ap (λ p. p && not (same_items v w)) (sym parts))) ]
+    elim m as (λ b. told ≡ not b → same_items v (cond b v w) ≡ b → tells_of told t (OSet v) (operation.fitting (cond {A = operation.Answer} b (operation.replies there (OSet v)) (operation.replies new (OSet w))))) [
+      | true ↦ (λ h e. told-of told t (OSet v) (OSet v) (line there) (h ∙ sym (ap not e) ∙ ap (λ p. p && not (same_items v v)) (sym parts)))
+      | false ↦ (λ h e. told-of told t (OSet v) (OSet w) (line new) (h ∙ sym (ap not e) ∙ ap (λ p. p && not (same_items v w)) (sym parts)))
+    ]
     h (sym (longer m v w long))
 
 pub parts-append : (told : Bool) (a : Literal) (v : List Literal) → told ≡ not (member a v) → tells_of told (whole (operation.append a)) (OSet v) (operation.fitting (operation.append a (OSet v)))
@@ -121,14 +122,11 @@ parts-place told i a v k e l h =
     (comes-told told t (member a v) (truth false) (truth true) v (insert v k a) refl h (length-insert v k a l))
 
 -- a member goes, or there is none
-length-gone : (v : List Literal) (k : ℕ) → k < length v → length (remove v k) + 1 ≡ length v
-length-gone v k l = grind (arith, l)
-
 pub parts-gone : (x : Literal) (v : List Literal) (k : ℕ) → Some k ≡ place_in x v → tells_of true (keyed x (operation.remove x)) (OSet v) (operation.fitting (operation.remove x (OSet v)))
 parts-gone x v k e =
     let t = keyed x (operation.remove x) in
     subst (λ o. tells_of true t (OSet v) (operation.fitting (operation.removed_member OSet v o))) e
-    (told-of true t (OSet v) (OSet (remove v k)) (line (operation.element v k)) (ap not (shorter v (remove v k) (length-gone v k (placed x v k e).0))))
+    (told-of true t (OSet v) (OSet (remove v k)) (line (operation.element v k)) (ap not (shorter v (remove v k) (length-remove v k (placed x v k e).0))))
 
 pub parts-absent : (x : Literal) (v : List Literal) → None ≡ place_in x v → tells_of false (keyed x (operation.remove x)) (OSet v) (operation.fitting (operation.remove x (OSet v)))
 parts-absent x v e =

@@ -23,8 +23,8 @@ abbrev pub set : Flat (List Literal) → Seen
 set s = record { value = Set s.value; alone = s.alone; hidden = 0 }
 
 -- an ordered set
-abbrev pub ordered : Flat (List Literal) → Seen
-ordered s = record { value = OSet s.value; alone = s.alone; hidden = 0 }
+abbrev pub oset : Flat (List Literal) → Seen
+oset s = record { value = OSet s.value; alone = s.alone; hidden = 0 }
 
 -- a heap
 abbrev pub heap : Flat (List Literal) → Seen
@@ -39,7 +39,7 @@ abbrev pub seen : {T Q : Type 0} → Value T Q → Seen
 seen (variants.Array a) = array a
 seen (variants.Slice s) = slice s
 seen (variants.Set s) = set s
-seen (variants.OSet s) = ordered s
+seen (variants.OSet s) = oset s
 seen (variants.Heap s) = heap s
 
 -- `rebase` gives a value of another kind, so no kind does it by itself

@@ -19,7 +19,7 @@ mod heap;
 mod keeps;
 mod lines;
 mod listed;
-mod ordered;
+mod oset;
 mod positions;
 mod queries;
 mod reading;

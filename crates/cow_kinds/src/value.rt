@@ -4,7 +4,7 @@ ghost use Rattle.std.specs.Prelude.{true};
 ghost use Rattle.cow_kinds.specs.Values as values;
 
 use crate::element::Element;
-use crate::{array, heap, ordered, set, slice};
+use crate::{array, heap, oset, set, slice};
 use cow_array::{Array, ArraySlice};
 use cow_cell::{Holder, Stock};
 use cow_heap::Heap;
@@ -161,7 +161,7 @@ impl<T: Element<Q>, Q: Stock> Values<Q> for Value<T, Q> {
         match kind {
             Kind::Array => Ok(Value::Array(array::make(alloc, atoms, h)?)),
             Kind::Set => Ok(Value::Set(set::make(alloc, atoms, h)?)),
-            Kind::OSet => Ok(Value::OSet(ordered::make(alloc, atoms, h)?)),
+            Kind::OSet => Ok(Value::OSet(oset::make(alloc, atoms, h)?)),
             Kind::Heap => Ok(Value::Heap(heap::make(alloc, atoms, h)?)),
             _ => unreachable!(),
         }
