@@ -1,6 +1,6 @@
 -- What the statements on ordered sets leave, and when they leave an ordered set the same.
 use Rattle.std.proofs.Common.{◌≡◌, ℕ, ℤ, ◌+◌, ◌<◌, ◌≤◌, length, List, [], ◌∷◌, ◌++◌, Bool, true, false, not, ◌||◌, ◌&&◌, cond, insert, remove, slice_get, Option, Some, None, refl, sym, ap, ◌∙◌, subst, codes, arith}
-use Rattle.std.specs.Prelude.{nat_lt}
+use Rattle.std.specs.Prelude.{nat_lt, Result, OnOk}
 use Rattle.std.specs.Bool.{Decides}
 use Rattle.std.proofs.lemmas.Bool.{true≢false}
 use Rattle.std.proofs.lemmas.List.{length-append, length_push}
@@ -9,18 +9,22 @@ use Rattle.std.proofs.lemmas.List.Sums.{count_by-le-length, length-filter}
 use Rattle.cow_members.proofs.Ascents.{each-all, itself, member-filter, member-last, member-union}
 use Rattle.cow_members.proofs.Listed.{Distinct, place-none, symdiff-parts, toggled-nothing, union-none, union-parts}
 use Rattle.cow_members.proofs.Operations.{all-there, union-most}
-use Rattle.cow_members.specs.Sets.{lacking}
+use Rattle.cow_members.specs.Sets.{ChangesTo, lacking}
 use Rattle.cow_model.proofs.Ascending.{on_side}
-use Rattle.cow_model.specs.Members.{last, member, minus, place_in, subset, symdiff, union}
+use Rattle.cow_model.specs.Flat.{Flat}
+use Rattle.cow_model.specs.Members.{last, member, minus, place_in, subset, symdiff, union, with_member}
 use Rattle.cow_model.specs.Operation as operation
 use Rattle.cow_model.specs.Lexis.{Text}
 use Rattle.cow_model.specs.Plain.{same_items}
 use Rattle.cow_model.specs.Printed.{atom_text, line, nil_or, truth}
+use Rattle.cow_model.specs.Purse.{Purse}
 use Rattle.cow_model.specs.Turns.{Turn, keyed, tells_of, whole}
+use Rattle.cow_model.specs.declared.memory.NoMemory.{NoMemory}
 use Rattle.cow_model.specs.declared.plain.Literal.{Literal}
 use Rattle.cow_model.specs.declared.value.Plain.TheVariants.{OSet}
 use Rattle.cow_kinds.proofs.Equals.{tells-same}
 use Rattle.cow_kinds.proofs.Sets.{before, differs-by-one, length_minus, or-right, stands, told-of}
+use Rattle.cow_kinds.specs.Sets.{Adds}
 use Rattle.cow_ordered.specs.Ordered.{placed_at}
 
 -- ---- where a member stands
@@ -44,9 +48,20 @@ placed a v k e = on_side (member a v)
 pub element-of : (a : Literal) (v : List Literal) (k : ℕ) → Some k ≡ place_in a v → operation.element v k ≡ atom_text a
 element-of a v k e = ap (λ o. nil_or atom_text o) (placed a v k e).1
 
--- a place at the end is the last
-pub placed-end : (v : List Literal) (a : Literal) → placed_at (length v) a v ≡ last a v
-placed-end v a = insert_end v a
+-- what comes at the end comes last
+pub adds-last : (counted : Literal → Bool) (n : ℕ) (a : Literal) (before after : Flat (List Literal)) (h h' : Purse) (r : Result Bool NoMemory) → n ≡ length before.value
+    → Adds counted (placed_at n) a before after h h' r → Adds counted last a before after h h' r
+adds-last counted n a before after h h' r e added =
+    let one : with_member (placed_at n) before.value a ≡ with_member last before.value a =
+    ap (λ l. cond (member a before.value) before.value l) (ap (λ m. insert before.value m a) e ∙ insert_end before.value a) in
+    record {
+      told = added.told;
+      value = subst (λ w. OnOk r (ChangesTo w before after)) one added.value;
+      kept = added.kept;
+      alone = added.alone;
+      moved = added.moved;
+      falls = added.falls;
+    }
 
 -- ---- how long ordered sets get
 pub length-last : (v w : List Literal) → Distinct w → length (union last v w) ≡ length v + lacking v w
