@@ -34,14 +34,25 @@ some-is i k e = cc
 none-some : (k : ℕ) → None ≡ Some k → true ≡ false
 none-some k e = cc
 
--- it stands within the list
-pub placed : (a : Literal) (v : List Literal) (k : ℕ) → Some k ≡ place_in a v → (k < length v) × (slice_get v k ≡ Some a)
-placed a v k e = on_side (member a v)
-    (λ m.
+there : (a : Literal) (v : List Literal) → member a v ≡ true → place_in a v ≡ Some (before a v)
+there a v m =
     let here = stands a v m in
     let within : nat_lt (before a v) (length v) ≡ true = grind (arith, here.0) in
-    let at : place_in a v ≡ Some (before a v) = ap (λ t. cond {A = Option ℕ} t (Some (before a v)) None) within in
-    subst (λ n. (n < length v) × (slice_get v n ≡ Some a)) (some-is (before a v) k (sym at ∙ sym e)) here)
+    ap (λ t. cond {A = Option ℕ} t (Some (before a v)) None) within
+
+-- one that isn't new is a member
+pub not-new : (b : Bool) → false ≡ not b → b ≡ true
+not-new true e = refl
+not-new false e = absurd (true≢false (sym e))
+
+-- what has no place is no member
+pub nowhere : (a : Literal) (v : List Literal) → None ≡ place_in a v → member a v ≡ false
+nowhere a v e = on_side (member a v) (λ m. absurd (true≢false (none-some (before a v) (e ∙ there a v m)))) (λ m. m)
+
+-- a member stands within the list
+pub placed : (a : Literal) (v : List Literal) (k : ℕ) → Some k ≡ place_in a v → (k < length v) × (slice_get v k ≡ Some a)
+placed a v k e = on_side (member a v)
+    (λ m. subst (λ n. (n < length v) × (slice_get v n ≡ Some a)) (some-is (before a v) k (sym (there a v m) ∙ sym e)) (stands a v m))
     (λ m. absurd (true≢false (none-some k (place-none a v m ∙ sym e))))
 
 -- the text of a member is that of what stands at its place
