@@ -1,5 +1,5 @@
 -- What the statements on sets and on ordered sets share.
-use Rattle.std.specs.Prelude.{◌≡◌, ℕ, ◌+◌, ◌*◌, ◌≤◌, Bool, true, not, List, length, count_by, Result, IfOk, OnOk, OnErr}
+use Rattle.std.specs.Prelude.{◌≡◌, ◌+◌, ◌*◌, ◌≤◌, Bool, true, not, List, length, count_by, Result, IfOk, OnOk, OnErr}
 use Rattle.cow_model.specs.Flat.{Flat, copies}
 use Rattle.cow_model.specs.Members.{Placing, member, with_member}
 use Rattle.cow_model.specs.Purse.{Purse, Moves, unit_if}
