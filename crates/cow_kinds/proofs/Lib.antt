@@ -3,6 +3,7 @@ pub mod DictCosts
 pub mod Dicts
 pub mod Equals
 pub mod Heaps
+pub mod OrderedSets
 pub mod PairUnits
 pub mod Printing
 pub mod Sets

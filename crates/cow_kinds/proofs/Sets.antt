@@ -195,7 +195,7 @@ none-comes v (y ∷ w) e =
     let both = and-both (member y v) (list_all (λ a. member a v) w) e in
     none-comes v w both.1 ∙ sym (ap (λ t. union in_order (cond t v (in_order y v)) w) both.0)
 
-or-right : (a b : Bool) → b ≡ true → (a || b) ≡ true
+pub or-right : (a b : Bool) → b ≡ true → (a || b) ≡ true
 or-right true b e = refl
 or-right false b e = e
 
@@ -208,7 +208,7 @@ union-same v w = tells-same (subset w v) v (union in_order v w) (none-comes v w,
 nothing-differs : (v : List Literal) → v ≡ symdiff in_order v []
 nothing-differs v = kept-all (λ a. not (member a [])) v (each-all (λ a. not (member a [])) v (λ q m. refl))
 
-differs-by-one : (a b c : Bool) → b ≡ true → a ≡ ((a && not b) || (b && not a)) → c ≡ true
+pub differs-by-one : (a b c : Bool) → b ≡ true → a ≡ ((a && not b) || (b && not a)) → c ≡ true
 differs-by-one true true c e f = cc
 differs-by-one false true c e f = cc
 differs-by-one a false c e f = cc

@@ -8,7 +8,7 @@ use Rattle.cow_model.specs.Sharing.{Layer}
 use Rattle.cow_model.specs.declared.plain.Literal.{Literal}
 use Rattle.cow_model.specs.declared.value.Pair.{Pair}
 use Rattle.cow_model.specs.declared.statement.Statement.TheOpen.{Statement-F}
-use Rattle.cow_model.specs.declared.value.Plain.TheVariants.{Array, Slice, Deque, Set, Dict, Heap}
+use Rattle.cow_model.specs.declared.value.Plain.TheVariants.{Array, Slice, Deque, Set, Dict, OSet, Heap}
 use Rattle.cow_value.specs.Seen.{Seen, Brings}
 
 -- an array
@@ -31,6 +31,10 @@ set s = record { value = Set s.value; alone = s.alone; hidden = 0 }
 abbrev pub dict : Flat (List Pair) → Seen
 dict d = record { value = Dict d.value; alone = d.alone; hidden = 0 }
 
+-- an ordered set
+abbrev pub oset : Flat (List Literal) → Seen
+oset s = record { value = OSet s.value; alone = s.alone; hidden = 0 }
+
 -- a heap
 abbrev pub heap : Flat (List Literal) → Seen
 heap s = record { value = Heap s.value; alone = s.alone; hidden = 0 }
@@ -50,6 +54,7 @@ seen (variants.Slice s) = slice s
 seen (variants.Deque q) = deque q
 seen (variants.Set s) = set s
 seen (variants.Dict d) = dict d
+seen (variants.OSet s) = oset s
 seen (variants.Heap s) = heap s
 
 -- `rebase` gives a value of another kind, so no kind does it by itself

@@ -21,6 +21,7 @@ mod heap;
 mod keeps;
 mod lines;
 mod listed;
+mod oset;
 mod pairs;
 mod positions;
 mod queries;

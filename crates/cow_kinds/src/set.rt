@@ -48,7 +48,7 @@ fn add<T: Element<Q>, Q: Stock>(
 ) -> Result<bool, NoMemory>
     requires text { FitsText atom.now }
     requires ready { IsReady 1 (set s.old) h.old }
-    ensures { Adds T.is_counted atom.now s.old s.new h.old h.new result }
+    ensures { Adds T.is_counted in_order atom.now s.old s.new h.old h.new result }
 {
     let x = T::read(alloc, atom, h)?;
     match s.insert(x, h) {
@@ -71,7 +71,7 @@ fn add_telling<T: Element<Q>, Q: Stock>(
 ) -> Result<bool, NoMemory>
     requires text { FitsText atom.now }
     requires ready { IsReady 1 (set s.old) h.old }
-    ensures adds { Adds T.is_counted atom.now s.old s.new h.old h.new result }
+    ensures adds { Adds T.is_counted in_order atom.now s.old s.new h.old h.new result }
     ensures told { IfOk result (λ is_new.
         text.new.items ≡ text.old.items ++ (if is_new then line.now else [])) }
     ensures kept { OnErr result (text.new.items ≡ text.old.items) }

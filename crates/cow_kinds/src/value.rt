@@ -4,13 +4,14 @@ ghost use Rattle.std.specs.Prelude.{true};
 ghost use Rattle.cow_kinds.specs.Values as values;
 
 use crate::element::Element;
-use crate::{array, deque, dict, heap, set, slice};
+use crate::{array, deque, dict, heap, oset, set, slice};
 use cow_array::{Array, ArraySlice};
 use cow_cell::{Holder, Stock};
 use cow_deque::Deque;
 use cow_dict::Dictionary;
 use cow_heap::Heap;
 use cow_model::{Kind, Literal, NoMemory, Refusal, Statement};
+use cow_ordered::OrderedSet;
 use cow_set::Set;
 use cow_value::{Collection, Shown, Values};
 use std::alloc::Global;
@@ -23,6 +24,7 @@ pub enum Value<T: Element<Q>, Q: Stock> {
     Deque(Deque<T, Q>),
     Set(Set<T, Q>),
     Dict(Dictionary<T, T, Q>),
+    OSet(OrderedSet<T, Q>),
     Heap(Heap<T, Q>),
 }
 
@@ -35,6 +37,7 @@ macro_rules! each {
             Value::Deque($it) => $call,
             Value::Set($it) => $call,
             Value::Dict($it) => $call,
+            Value::OSet($it) => $call,
             Value::Heap($it) => $call,
         }
     };
@@ -49,6 +52,7 @@ macro_rules! alike {
             Value::Deque($it) => Value::Deque($call),
             Value::Set($it) => Value::Set($call),
             Value::Dict($it) => Value::Dict($call),
+            Value::OSet($it) => Value::OSet($call),
             Value::Heap($it) => Value::Heap($call),
         }
     };
@@ -167,6 +171,7 @@ impl<T: Element<Q>, Q: Stock> Values<Q> for Value<T, Q> {
             Kind::Deque => Ok(Value::Deque(deque::make(alloc, atoms, h)?)),
             Kind::Set => Ok(Value::Set(set::make(alloc, atoms, h)?)),
             Kind::Dict => Ok(Value::Dict(dict::make(alloc, atoms, h)?)),
+            Kind::OSet => Ok(Value::OSet(oset::make(alloc, atoms, h)?)),
             Kind::Heap => Ok(Value::Heap(heap::make(alloc, atoms, h)?)),
             _ => unreachable!(),
         }

@@ -12,15 +12,13 @@ is_built_kind kind.Array = true
 is_built_kind kind.Deque = true
 is_built_kind kind.Set = true
 is_built_kind kind.Dict = true
+is_built_kind kind.OSet = true
 is_built_kind kind.Heap = true
 is_built_kind k = false
 
 -- the line of a statement that isn't built: its word isn't, or in a `let` its kind
 abbrev pub unbuilt_at : Layer → Option ℕ
 unbuilt_at (Statement-F.Let l n k atoms) = if is_built_kind k then None else Some l
-unbuilt_at (Statement-F.RemoveAt l n i) = Some l
-unbuilt_at (Statement-F.At l n i) = Some l
-unbuilt_at (Statement-F.Place l n a) = Some l
 unbuilt_at (Statement-F.Lazy l n i verb) = Some l
 unbuilt_at s = None
 

@@ -49,12 +49,10 @@ pub fn unbuilt_line(statement: &Statement) -> Option<u64>
 {
     match statement {
         Statement::Let { line, kind, .. } => match kind {
-            Kind::Array | Kind::Deque | Kind::Set | Kind::Dict | Kind::Heap => None,
+            Kind::Array | Kind::Deque | Kind::Set | Kind::Dict | Kind::OSet | Kind::Heap => None,
             _ => Some(*line),
         },
-        Statement::RemoveAt { line, .. }
-        | Statement::At { line, .. }
-        | Statement::Place { line, .. }
+        Statement::Lazy { line, .. } => Some(*line),
         | Statement::Lazy { line, .. } => Some(*line),
         _ => None,
     }

@@ -140,6 +140,49 @@ const DICTS: &[&str] = &[
     "append N A",
 ];
 
+const ORDERED: &[&str] = &[
+    "let N = oset K K K L",
+    "let N = oset K K K",
+    "let N = oset",
+    "let N = N",
+    "let N = N",
+    "let N = set K K",
+    "drop N",
+    "show N",
+    "show N",
+    "count N",
+    "append N K",
+    "append N K",
+    "append N A",
+    "insert N P K",
+    "insert N P K",
+    "insert N P A",
+    "update N K",
+    "update N K",
+    "remove N K",
+    "remove N K",
+    "removeat N P",
+    "removeat N P",
+    "at N P",
+    "has N K",
+    "place N K",
+    "place N K",
+    "swap N P P",
+    "swap N P P",
+    "reverse N",
+    "union N N",
+    "union N N",
+    "inter N N",
+    "minus N N",
+    "symdiff N N",
+    "symdiff N N",
+    "subset N N",
+    "disjoint N N",
+    "equal N N",
+    "insert N K",
+    "clear N",
+];
+
 const HEAPS: &[&str] = &[
     "let N = heap K K K L",
     "let N = heap L A A",
@@ -169,7 +212,7 @@ const HEAPS: &[&str] = &[
 ];
 
 /// The forms of the kinds that are built. A script has those of one.
-const FORMS: &[&[&str]] = &[LISTS, DEQUES, SETS, DICTS, HEAPS];
+const FORMS: &[&[&str]] = &[LISTS, DEQUES, SETS, DICTS, ORDERED, HEAPS];
 
 const NAMES: &[&str] = &["a", "b", "c", "d"];
 

@@ -281,7 +281,7 @@ const ROWS: &[(&[&str], &str, &str, u8)] = &[
     (RUN, "let s = tset 1", "line 1: not built", 9),
     (
         CENSUS,
-        "let a = array 1 / show a / at a 0 / place a 1",
+        "let a = array 1 / show a / lazy a 0 show / let t = tdict 1 2",
         "line 3: not built",
         9,
     ),
