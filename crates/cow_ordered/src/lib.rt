@@ -14,7 +14,7 @@
 //! in the middle moves the positions behind it, in one pass over the table; at the end it does so in a few steps.
 //!
 //! `new` may always answer want of memory, so a body that only does so meets the contract. A change of a storage that
-//! isn't known to be unshared may answer it too. No test shows yet that such calls succeed.
+//! isn't known to be unshared may answer it too. The tests of ordered sets show that such calls succeed.
 #![tactic(auto)]
 
 mod set;

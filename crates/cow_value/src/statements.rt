@@ -53,7 +53,6 @@ pub fn unbuilt_line(statement: &Statement) -> Option<u64>
             _ => Some(*line),
         },
         Statement::Lazy { line, .. } => Some(*line),
-        | Statement::Lazy { line, .. } => Some(*line),
         _ => None,
     }
 }
