@@ -1,6 +1,6 @@
 #!/usr/bin/env bash
-# Prints what the calls of a set cost beside those of Rust's HashSet with its default hasher (std), of the same with
-# a hasher that only multiplies (fast), and of IndexSet (index): nanoseconds a key, ours over each of them, and
+# Prints what the calls of a set and of a dictionary cost beside those of Rust's HashSet and HashMap with their default
+# hasher (std), of the same with a hasher that only multiplies (fast), and of IndexSet and IndexMap (index): nanoseconds a key, ours over each of them, and
 # instructions a key; then the memory that a key takes, and what a run of keys with homes side by side costs. All of
 # this run on this machine. Wants rt and rustc; counts instructions and memory where valgrind is there, and has
 # IndexSet where Debian's librust-indexmap-dev is. Not part of the gate.
@@ -104,7 +104,7 @@ measured() {
     local how=$1 unit=$2 size=$3 keys workload set found
     declare -A inserted
     for keys in scattered row; do
-        for workload in insert remove find miss copy union insert-atoms remove-atoms find-atoms miss-atoms; do
+        for workload in insert remove find miss copy union {insert,remove,find,miss}-{atoms,pairs}; do
             found=()
             for set in ours "${sets[@]}"; do
                 x=$("$how" "$set" "$workload" "$keys" "$size")
@@ -121,7 +121,7 @@ measured() {
 
 for size in "${sizes[@]}"; do
     for set in "${sets[@]}"; do
-        for workload in insert remove find miss copy union; do
+        for workload in insert remove find miss copy union {insert,remove,find,miss}-pairs; do
             a=$(run ours "$workload" scattered 1000 3)
             b=$(run "$set" "$workload" scattered 1000 3)
             [[ $a == "$b" ]] || { echo "they differ: $a, $b"; exit 1; }

@@ -1,11 +1,11 @@
-//! The workloads of the crate bench_hashed over other sets, for bench/hashed.sh: Rust's `HashSet` with its default
-//! hasher (`std`), the same with a hasher that only multiplies (`fast`), and, where bench/hashed.sh found the crate,
-//! `IndexSet` with the default hasher (`index`).
+//! The workloads of the crate bench_hashed over other sets, for bench/hashed.sh: Rust's `HashSet` and `HashMap` with
+//! their default hasher (`std`), the same with a hasher that only multiplies (`fast`), and, where bench/hashed.sh found the crate,
+//! `IndexSet` and `IndexMap` with the default hasher (`index`).
 //!
 //! `std_sets SET WORKLOAD KEYS SIZE ROUNDS` runs one of them and prints a number that shows what was done, as
 //! bench_hashed does, whose page tells the workloads and the keys.
 
-use std::collections::HashSet;
+use std::collections::{HashMap, HashSet};
 use std::hash::{BuildHasher, BuildHasherDefault, Hash, Hasher, RandomState};
 use std::hint::black_box;
 use std::sync::Arc;
@@ -101,6 +101,32 @@ impl<K: Numbered, S: BuildHasher + Default + Clone> Keys<K> for HashSet<K, S> {
     }
 }
 
+impl<S: BuildHasher + Default + Clone> Keys<i64> for HashMap<i64, i64, S> {
+    fn empty() -> Self {
+        HashMap::default()
+    }
+
+    fn count(&self) -> usize {
+        self.len()
+    }
+
+    fn add(&mut self, key: i64) -> bool {
+        self.insert(key, key).is_none()
+    }
+
+    fn take(&mut self, key: &i64) -> bool {
+        self.remove(key).is_some()
+    }
+
+    fn has(&self, key: &i64) -> bool {
+        self.get(key).is_some()
+    }
+
+    fn join(&mut self, other: &Self) {
+        self.extend(other.iter());
+    }
+}
+
 #[cfg(has_indexmap)]
 impl<K: Numbered, S: BuildHasher + Default + Clone> Keys<K> for indexmap::IndexSet<K, S> {
     fn empty() -> Self {
@@ -125,6 +151,33 @@ impl<K: Numbered, S: BuildHasher + Default + Clone> Keys<K> for indexmap::IndexS
 
     fn join(&mut self, other: &Self) {
         self.extend(other.iter().cloned());
+    }
+}
+
+#[cfg(has_indexmap)]
+impl<S: BuildHasher + Default + Clone> Keys<i64> for indexmap::IndexMap<i64, i64, S> {
+    fn empty() -> Self {
+        indexmap::IndexMap::default()
+    }
+
+    fn count(&self) -> usize {
+        self.len()
+    }
+
+    fn add(&mut self, key: i64) -> bool {
+        self.insert(key, key).is_none()
+    }
+
+    fn take(&mut self, key: &i64) -> bool {
+        self.swap_remove(key).is_some()
+    }
+
+    fn has(&self, key: &i64) -> bool {
+        self.get(key).is_some()
+    }
+
+    fn join(&mut self, other: &Self) {
+        self.extend(other.iter());
     }
 }
 
@@ -217,7 +270,12 @@ fn union<S: Keys<i64>>(scale: u64, size: usize, rounds: u64) -> i64 {
 }
 
 /// Runs one workload over one kind of set.
-fn run<S: Keys<i64>, A: Keys<Atom>>(workload: &str, scale: u64, size: usize, rounds: u64) -> i64 {
+fn run<S: Keys<i64>, A: Keys<Atom>, P: Keys<i64>>(
+    workload: &str,
+    scale: u64,
+    size: usize,
+    rounds: u64,
+) -> i64 {
     match workload {
         "insert" => insert::<i64, S>(scale, size, rounds),
         "remove" => remove::<i64, S>(scale, size, rounds),
@@ -229,6 +287,10 @@ fn run<S: Keys<i64>, A: Keys<Atom>>(workload: &str, scale: u64, size: usize, rou
         "remove-atoms" => remove::<Atom, A>(scale, size, rounds),
         "find-atoms" => find::<Atom, A>(scale, 0, size, rounds),
         "miss-atoms" => find::<Atom, A>(scale, size, size, rounds),
+        "insert-pairs" => insert::<i64, P>(scale, size, rounds),
+        "remove-pairs" => remove::<i64, P>(scale, size, rounds),
+        "find-pairs" => find::<i64, P>(scale, 0, size, rounds),
+        "miss-pairs" => find::<i64, P>(scale, size, size, rounds),
         _ => panic!("no workload {workload}"),
     }
 }
@@ -243,12 +305,22 @@ fn main() {
     type Quick = BuildHasherDefault<Fast>;
     let scale = scale(keys);
     let done = match set.as_str() {
-        "std" => run::<HashSet<i64, RandomState>, HashSet<Atom, RandomState>>(workload, scale, size, rounds),
-        "fast" => run::<HashSet<i64, Quick>, HashSet<Atom, Quick>>(workload, scale, size, rounds),
+        "std" => run::<
+            HashSet<i64, RandomState>,
+            HashSet<Atom, RandomState>,
+            HashMap<i64, i64, RandomState>,
+        >(workload, scale, size, rounds),
+        "fast" => run::<HashSet<i64, Quick>, HashSet<Atom, Quick>, HashMap<i64, i64, Quick>>(
+            workload, scale, size, rounds,
+        ),
         #[cfg(has_indexmap)]
         "index" => {
-            use indexmap::IndexSet;
-            run::<IndexSet<i64, RandomState>, IndexSet<Atom, RandomState>>(workload, scale, size, rounds)
+            use indexmap::{IndexMap, IndexSet};
+            run::<
+                IndexSet<i64, RandomState>,
+                IndexSet<Atom, RandomState>,
+                IndexMap<i64, i64, RandomState>,
+            >(workload, scale, size, rounds)
         }
         _ => panic!("no set {set}"),
     };

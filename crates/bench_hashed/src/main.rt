@@ -1,5 +1,5 @@
-//! What the calls of a set cost. `bench/hashed.sh` counts this program's instructions and times it beside
-//! `bench/std_sets.rs`, which does the same over sets of Rust's standard library and others; no gate does.
+//! What the calls of a set and of a dictionary cost. `bench/hashed.sh` counts this program's instructions and times it beside
+//! `bench/std_sets.rs`, which does the same over collections of Rust's standard library and others; no gate does.
 //!
 //! `bench_hashed WORKLOAD KEYS SIZE ROUNDS` runs a workload over sets of SIZE keys and prints a number that shows what
 //! was done. With no words it runs each on a small set.
@@ -12,6 +12,7 @@
 //! | `miss`, `miss-atoms` | as many keys that aren't there are looked for |
 //! | `copy` | a copy of a set takes one key more, so that all are copied |
 //! | `union` | a copy of a set takes in another, with which it has half of its members in common |
+//! | `insert-pairs`, `remove-pairs`, `find-pairs`, `miss-pairs` | the same as of sets, of dictionaries whose values are numbers |
 //!
 //! KEYS are `row`, numbers that follow each other; `scattered`, the same multiplied; or `crowd`, numbers whose hashes
 //! differ and whose homes lie side by side, so that all of them are one run of buckets.
@@ -27,6 +28,8 @@ use cow_set::Set;
 use std::alloc::Global;
 use std::io;
 use std::marker::Brand;
+
+mod pairs;
 
 /// The most keys of a set here.
 const MOST: usize = 0x10_0000;
@@ -45,18 +48,30 @@ enum Workload {
     Union,
 }
 
-/// The workloads, each with its word and whether its keys are atoms.
-const WORKLOADS: [(&str, Workload, bool); 10] = [
-    ("insert", Workload::Insert, false),
-    ("remove", Workload::Remove, false),
-    ("find", Workload::Find, false),
-    ("miss", Workload::Miss, false),
-    ("copy", Workload::Copy, false),
-    ("union", Workload::Union, false),
-    ("insert-atoms", Workload::Insert, true),
-    ("remove-atoms", Workload::Remove, true),
-    ("find-atoms", Workload::Find, true),
-    ("miss-atoms", Workload::Miss, true),
+/// What a collection holds.
+#[derive(Clone, Copy)]
+enum Held {
+    Numbers,
+    Atoms,
+    Pairs,
+}
+
+/// The workloads, each with its word and what its collection holds.
+const WORKLOADS: [(&str, Workload, Held); 14] = [
+    ("insert", Workload::Insert, Held::Numbers),
+    ("remove", Workload::Remove, Held::Numbers),
+    ("find", Workload::Find, Held::Numbers),
+    ("miss", Workload::Miss, Held::Numbers),
+    ("copy", Workload::Copy, Held::Numbers),
+    ("union", Workload::Union, Held::Numbers),
+    ("insert-atoms", Workload::Insert, Held::Atoms),
+    ("remove-atoms", Workload::Remove, Held::Atoms),
+    ("find-atoms", Workload::Find, Held::Atoms),
+    ("miss-atoms", Workload::Miss, Held::Atoms),
+    ("insert-pairs", Workload::Insert, Held::Pairs),
+    ("remove-pairs", Workload::Remove, Held::Pairs),
+    ("find-pairs", Workload::Find, Held::Pairs),
+    ("miss-pairs", Workload::Miss, Held::Pairs),
 ];
 
 /// The kinds of keys, each with its word and with what the numbers from 0 on are multiplied by.
@@ -331,7 +346,7 @@ fn run_of<K: Numbered<Q>, Q: Stock>(
 fn run<Q: Stock>(
     alloc: Global,
     opening: Opening,
-    workload: (Workload, bool),
+    workload: (Workload, Held),
     scale: u64,
     size: usize,
     rounds: u64,
@@ -339,11 +354,11 @@ fn run<Q: Stock>(
     requires opens { Opens Q.Stock opening }
     requires size { size ≤ 2 ^ 20 }
 {
-    let (workload, atoms) = workload;
-    if atoms {
-        run_of::<Atom<Q>, Q>(alloc, opening, workload, scale, size, rounds)
-    } else {
-        run_of::<i64, Q>(alloc, opening, workload, scale, size, rounds)
+    let (workload, held) = workload;
+    match held {
+        Held::Numbers => run_of::<i64, Q>(alloc, opening, workload, scale, size, rounds),
+        Held::Atoms => run_of::<Atom<Q>, Q>(alloc, opening, workload, scale, size, rounds),
+        Held::Pairs => pairs::run::<Q>(alloc, opening, workload, scale, size, rounds),
     }
 }
 
@@ -351,7 +366,7 @@ fn run<Q: Stock>(
 fn report<R: Alloc<A = Global> + Print>(
     rt: &R,
     words: (&str, &str),
-    workload: (Workload, bool),
+    workload: (Workload, Held),
     scale: u64,
     size: usize,
     rounds: u64,
@@ -367,16 +382,16 @@ fn report<R: Alloc<A = Global> + Print>(
 /// Runs each workload that the words ask for; each of them, on a small set, where they ask for none.
 fn main(rt: HostRuntime) -> io::Result<()> {
     let words: Vec<String> = std::env::args(&rt)?.collect(rt.alloc())?;
-    for (word, workload, atoms) in WORKLOADS {
+    for (word, workload, held) in WORKLOADS {
         for (kind, scale) in KEYS {
             if let [_, asked, which, size, rounds] = words.as_slice() {
                 if word == asked.as_str() && kind == which.as_str() {
                     let size = size.as_str().parse::<usize>().unwrap_or(0);
                     let rounds = rounds.as_str().parse::<u64>().unwrap_or(0);
-                    report(&rt, (word, kind), (workload, atoms), scale, size, rounds)?;
+                    report(&rt, (word, kind), (workload, held), scale, size, rounds)?;
                 }
             } else {
-                report(&rt, (word, kind), (workload, atoms), scale, 10, 3)?;
+                report(&rt, (word, kind), (workload, held), scale, 10, 3)?;
             }
         }
     }
