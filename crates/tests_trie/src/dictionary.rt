@@ -28,7 +28,7 @@ fn put<Q: Stock, C: Level<i64, i64, Q>>(
     v: i64,
     h: &mut Holder<Q>,
 ) -> Option<Option<i64>> {
-    if t.count() > 10_000 || !can_pay(t, h) {
+    if t.count() > 200_000 || !can_pay(t, h) {
         return None;
     }
     t.update(k, v, h).ok()
@@ -283,5 +283,98 @@ fn a_change_copies_the_path_that_is_shared_and_no_other_handle_sees_it(
 ) -> Result<(), Fail> {
     let answers = shared_trie::<Brand>(rt.alloc(), Opening::new());
     assert_eq!(rt; answers, Some((0, 6, Some(5), Some(50))));
+    Ok(())
+}
+
+/// Random puts, of which many find their key there.
+#[derive(Drop)]
+struct Many {
+    alloc: Global,
+    opening: Opening,
+    count: usize,
+}
+
+impl<Q: Stock> Task<i64, i64, Q> for Many {
+    type Out = Option<bool>;
+
+    ghost use Rattle.std.specs.Prelude.{⊤};
+    ghost use Rattle.cow_cell.specs.Opens.{Opens};
+
+    ghost Takes = { λ t. Opens Q.Stock t.opening };
+
+    ghost Gives = { λ t r. ⊤ };
+
+    fn run<C: Level<i64, i64, Q> + Send + Sync>(self) -> Option<bool> {
+        let Many {
+            alloc,
+            opening,
+            count,
+        } = self;
+        let mut h = Holder::<Q>::fresh(opening);
+        let mut t = TreeDictionary::<i64, i64, Q, C>::new(alloc, &mut h).ok()?;
+        let answer = agree(alloc, &mut t, count, &mut h);
+        t.end(&mut h);
+        answer
+    }
+}
+
+/// Numbers below 2^17 in an order of no meaning.
+fn random_keys(alloc: Global, count: usize) -> Option<Vec<i64>> {
+    let mut keys = Vec::new(alloc);
+    let mut last = 1u64;
+    for _ in 0..count {
+        last = last
+            .wrapping_mul(0x5851_f42d_4c95_7f2d)
+            .wrapping_add(0x1405_7b7e_f767_814f);
+        keys.push((last >> 47) as i64).ok()?;
+    }
+    Some(keys)
+}
+
+/// Each number of a sorted list once.
+fn distinct(alloc: Global, sorted: &[i64]) -> Option<Vec<i64>> {
+    let mut keys = Vec::new(alloc);
+    for i in 0..sorted.len() {
+        if i == 0 || sorted[i - 1] != sorted[i] {
+            keys.push(sorted[i]).ok()?;
+        }
+    }
+    Some(keys)
+}
+
+/// Whether the dictionary has exactly the keys that were put, in their order, and as many as it counts.
+fn agree<Q: Stock, C: Level<i64, i64, Q>>(
+    alloc: Global,
+    t: &mut TreeDictionary<i64, i64, Q, C>,
+    count: usize,
+    h: &mut Holder<Q>,
+) -> Option<bool> {
+    let mut keys = random_keys(alloc, count)?;
+    put_all(t, keys.as_slice(), h)?;
+    keys.sort_unstable();
+    let expected = distinct(alloc, keys.as_slice())?;
+    let sorted = t.sorted(alloc).ok()?;
+    Some(t.count() == expected.len() && are_keys(sorted.as_slice(), expected.as_slice()))
+}
+
+/// The same over seven levels.
+fn random_trie<Q: Stock + Send + Sync>(
+    alloc: Global,
+    opening: Opening,
+    count: usize,
+) -> Option<bool>
+    requires { Opens Q.Stock opening }
+{
+    over_levels::<i64, i64, Q, Many>(Many {
+        alloc,
+        opening,
+        count,
+    })
+}
+
+#[test]
+fn a_hundred_thousand_random_puts_agree_with_a_sorted_list(rt: HostRuntime) -> Result<(), Fail> {
+    let answer = random_trie::<Brand>(rt.alloc(), Opening::new(), 100_000);
+    assert_eq!(rt; answer, Some(true));
     Ok(())
 }
