@@ -13,17 +13,20 @@
 //!
 //! The invariant is that of its members, and one settled value for each key. `dictionary` has the type and its calls,
 //! `pairs` the steps on one pair, `algebra` what a dictionary does with another or with a test of keys, `storage` what
-//! the changes share.
+//! the changes share. Ordered dictionaries work on the same pairs, by `pairs`, `storage`, and `order`, by which they keep
+//! their order.
 //!
 //! `new` and `sorted` may always answer want of memory, so a body that only does so meets the contract. A change of a
-//! storage that isn't known to be unshared may answer it too. No test shows yet that such calls succeed.
+//! storage that isn't known to be unshared may answer it too. That such calls succeed is tested: the program's random
+//! scripts run dictionaries, and ordered dictionaries have tests of their own.
 #![tactic(auto)]
 
 mod algebra;
 mod dictionary;
-mod pairs;
+pub mod order;
+pub mod pairs;
 mod rule;
-mod storage;
+pub mod storage;
 
 pub use dictionary::Dictionary;
 pub use rule::Merge;

@@ -39,21 +39,21 @@ impl<K, V> Model for Pairs<K, V> {
 
 impl<K: Drop, V: Drop> Pairs<K, V> {
     /// How many pairs there are.
-    pub(crate) fn len(&self) -> usize
+    pub fn len(&self) -> usize
         ensures { result ≡ length self.now.members.keys.items }
     {
         self.members.len()
     }
 
     /// Whether there is no pair.
-    pub(crate) fn is_empty(&self) -> bool
+    pub fn is_empty(&self) -> bool
         ensures { IsTrue result ↔ (self.now.members.keys.items ≡ []) }
     {
         self.members.is_empty()
     }
 
     /// The key at position `i`.
-    pub(crate) fn key_at(&self, i: usize) -> &K
+    pub fn key_at(&self, i: usize) -> &K
         requires { i < length self.now.members.keys.items }
         ensures { slice_get self.now.members.keys.items i ≡ Some result.now }
     {
@@ -61,7 +61,7 @@ impl<K: Drop, V: Drop> Pairs<K, V> {
     }
 
     /// The value at position `i`.
-    pub(crate) fn value_at(&self, i: usize) -> &V
+    pub fn value_at(&self, i: usize) -> &V
         requires { i < length self.now.values.items }
         ensures { slice_get self.now.values.items i ≡ Some result.now }
     {
@@ -69,21 +69,21 @@ impl<K: Drop, V: Drop> Pairs<K, V> {
     }
 
     /// The keys, in the order of their positions.
-    pub(crate) fn keys(&self) -> &[K]
+    pub fn keys(&self) -> &[K]
         ensures { result.now ≡ self.now.members.keys.items }
     {
         self.members.as_slice()
     }
 
     /// The values, each at the position of its key.
-    pub(crate) fn values(&self) -> &[V]
+    pub fn values(&self) -> &[V]
         ensures { result.now ≡ self.now.values.items }
     {
         self.values.as_slice()
     }
 
     /// The keys and the table of their hashes.
-    pub(crate) fn members(&self) -> &Members<K>
+    pub fn members(&self) -> &Members<K>
         ensures { result.now ≡ self.now.members }
     {
         &self.members
@@ -91,7 +91,7 @@ impl<K: Drop, V: Drop> Pairs<K, V> {
 }
 
 /// No pairs. Takes memory for 8 buckets.
-pub(crate) fn new<K: Key<Q>, V: Item<Q>, Q: Stock>(alloc: Global) -> Result<Pairs<K, V>, NoMemory>
+pub fn new<K: Key<Q>, V: Item<Q>, Q: Stock>(alloc: Global) -> Result<Pairs<K, V>, NoMemory>
     ensures whole { IfOk result (AreWhole K.plain K.hash_of K.IsSettled V.IsSettled) }
     ensures empty { IfOk result (λ p. p.members.keys.items ≡ []) }
 {
@@ -101,7 +101,7 @@ pub(crate) fn new<K: Key<Q>, V: Item<Q>, Q: Stock>(alloc: Global) -> Result<Pair
 }
 
 /// `k`, which has this hash and isn't there, stands last, and `v` beside it, both settled.
-pub(crate) fn push<K: Key<Q>, V: Item<Q>, Q: Stock>(pairs: &mut Pairs<K, V>, hash: u32, k: K, v: V)
+pub fn push<K: Key<Q>, V: Item<Q>, Q: Stock>(pairs: &mut Pairs<K, V>, hash: u32, k: K, v: V)
     requires whole { AreWhole K.plain K.hash_of K.IsSettled V.IsSettled pairs.old }
     requires hash { hash ≡ K.hash_of (K.plain k) }
     requires absent { member (K.plain k) (keys_of K.plain pairs.old.members) ≡ false }
@@ -123,7 +123,7 @@ pub(crate) fn push<K: Key<Q>, V: Item<Q>, Q: Stock>(pairs: &mut Pairs<K, V>, has
 }
 
 /// `v`, settled, stands in the place of the value at position `i`, which is handed out.
-pub(crate) fn replace<K: Key<Q>, V: Item<Q>, Q: Stock>(pairs: &mut Pairs<K, V>, i: usize, v: V) -> V
+pub fn replace<K: Key<Q>, V: Item<Q>, Q: Stock>(pairs: &mut Pairs<K, V>, i: usize, v: V) -> V
     requires whole { AreWhole K.plain K.hash_of K.IsSettled V.IsSettled pairs.old }
     requires within { i < length pairs.old.members.keys.items }
     ensures whole { AreWhole K.plain K.hash_of K.IsSettled V.IsSettled pairs.new }
@@ -139,7 +139,7 @@ pub(crate) fn replace<K: Key<Q>, V: Item<Q>, Q: Stock>(pairs: &mut Pairs<K, V>, 
 }
 
 /// The pair at position `i`, taken out; the last one stands in its place. As many steps as the table takes for it.
-pub(crate) fn take<K: Key<Q>, V: Item<Q>, Q: Stock>(pairs: &mut Pairs<K, V>, i: usize) -> (K, V)
+pub fn take<K: Key<Q>, V: Item<Q>, Q: Stock>(pairs: &mut Pairs<K, V>, i: usize) -> (K, V)
     requires whole { AreWhole K.plain K.hash_of K.IsSettled V.IsSettled pairs.old }
     requires within { i < length pairs.old.members.keys.items }
     ensures whole { AreWhole K.plain K.hash_of K.IsSettled V.IsSettled pairs.new }
@@ -179,7 +179,7 @@ fn swap_remove<T: Drop>(row: &mut Row<T>, i: usize) -> T
 /// Room for `extra` more pairs. A row of values without room at least doubles, and the members grow with it. All memory
 /// is taken before anything changes; where that of the values is refused, only the members have more room. Moves the
 /// pairs and copies none.
-pub(crate) fn reserve<K: Key<Q>, V: Item<Q>, Q: Stock>(
+pub fn reserve<K: Key<Q>, V: Item<Q>, Q: Stock>(
     pairs: &mut Pairs<K, V>,
     alloc: Global,
     extra: usize,
@@ -210,7 +210,7 @@ pub(crate) fn reserve<K: Key<Q>, V: Item<Q>, Q: Stock>(
 /// Pairs for copies of those of `from`, which `fill` puts in: none yet, in rows with room for `capacity` of them, and a
 /// table of the same pairs of hash and position. Takes all memory that the copies need. Linear in the number of
 /// buckets.
-pub(crate) fn blank<K: Key<Q>, V: Item<Q>, Q: Stock>(
+pub fn blank<K: Key<Q>, V: Item<Q>, Q: Stock>(
     from: &Pairs<K, V>,
     alloc: Global,
     capacity: usize,
@@ -228,7 +228,7 @@ pub(crate) fn blank<K: Key<Q>, V: Item<Q>, Q: Stock>(
 /// Puts copies of all pairs of `from` into those that `blank` made of it. One pass over each row, and one count of the
 /// copies of each.
 #[tactic(auto, using(crate::proofs::Sides::unit_steps))]
-pub(crate) fn fill<K: Key<Q>, V: Item<Q>, Q: Stock>(
+pub fn fill<K: Key<Q>, V: Item<Q>, Q: Stock>(
     pairs: &mut Pairs<K, V>,
     from: &Pairs<K, V>,
     h: &mut Holder<Q>,
@@ -254,7 +254,7 @@ pub(crate) fn fill<K: Key<Q>, V: Item<Q>, Q: Stock>(
 
 /// Ends each pair, in one pass over each row.
 #[tactic(auto, using(crate::proofs::Sides::unit_steps))]
-pub(crate) fn end_all<K: Key<Q>, V: Item<Q>, Q: Stock>(pairs: Pairs<K, V>, h: &mut Holder<Q>)
+pub fn end_all<K: Key<Q>, V: Item<Q>, Q: Stock>(pairs: Pairs<K, V>, h: &mut Holder<Q>)
     requires { length pairs.values.items ≡ length pairs.members.keys.items }
     ensures { h.new ≡ more (held K.is_counted V.is_counted K.plain V.plain pairs) h.old }
 {

@@ -17,10 +17,7 @@ use cow_row::storage::grown;
 use std::alloc::Global;
 
 /// Ends the handle, and its pairs where it was the last one. Takes no memory.
-pub(crate) fn end_cell<K: Key<Q>, V: Item<Q>, Q: Stock>(
-    cell: Counted<Pairs<K, V>, Q>,
-    h: &mut Holder<Q>,
-)
+pub fn end_cell<K: Key<Q>, V: Item<Q>, Q: Stock>(cell: Counted<Pairs<K, V>, Q>, h: &mut Holder<Q>)
     requires whole { AreWhole K.plain K.hash_of K.IsSettled V.IsSettled cell.value }
     ensures moved { Moves (held K.is_counted V.is_counted K.plain V.plain cell.value) 0
         (more 1 h.old) h.new }
@@ -33,7 +30,7 @@ pub(crate) fn end_cell<K: Key<Q>, V: Item<Q>, Q: Stock>(
 }
 
 /// An alone handle of a new storage without pairs. Takes memory for both.
-pub(crate) fn empty<K: Key<Q>, V: Item<Q>, Q: Stock>(
+pub fn empty<K: Key<Q>, V: Item<Q>, Q: Stock>(
     alloc: Global,
     h: &mut Holder<Q>,
 ) -> Result<Counted<Pairs<K, V>, Q>, NoMemory>
@@ -91,7 +88,7 @@ fn renew<K: Key<Q>, V: Item<Q>, Q: Stock>(
 
 /// Makes the handle alone, with room for `extra` more pairs. One look at the handle, and nothing more where it is
 /// alone with room.
-pub(crate) fn prepare<K: Key<Q>, V: Item<Q>, Q: Stock>(
+pub fn prepare<K: Key<Q>, V: Item<Q>, Q: Stock>(
     cell: &mut Counted<Pairs<K, V>, Q>,
     alloc: Global,
     extra: usize,

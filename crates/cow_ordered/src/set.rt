@@ -9,6 +9,7 @@ ghost use Rattle.cow_model.specs.Purse.{Moves, less, more, unit_if};
 ghost use Rattle.cow_ordered.specs.Ordered.{placed_at};
 ghost use Rattle.cow_row.specs.Changes.{InPlace, HandsBack, Doubles, Returns, PaysWith};
 
+use crate::alike::alike;
 use cow_cell::{Counted, Holder, Stock};
 use cow_item::{Equivalent, Item, Key};
 use cow_members::{Members, algebra, members, order, storage};
@@ -533,16 +534,6 @@ impl<K: Key<Q>, Q: Stock> OrderedSet<K, Q> {
     pub fn equals(&self, other: &OrderedSet<K, Q>) -> bool
         ensures { IsTrue result ↔ (self.now.value ≡ other.now.value) }
     {
-        let left = self.cell.get();
-        let right = other.cell.get();
-        if left.len() != right.len() {
-            return false;
-        }
-        for i in 0..left.len() {
-            if !left.get(i).same(right.get(i)) {
-                return false;
-            }
-        }
-        true
+        alike(self.cell.get().as_slice(), other.cell.get().as_slice())
     }
 }

@@ -221,6 +221,20 @@ const ROWS: &[(&[&str], &str, &str, u8)] = &[
         "[1, 2, 3, 4] / [3, 4] / [3] / [4] / 4 / nil / true / false / copied 10 of at most 12",
         0,
     ),
+    // set_algebra for oset
+    (
+        CENSUS,
+        "let s = oset 1 2 3 / let u = oset 3 4 / union s u / show s / inter s u / show s / let v = oset 4 / minus s v / show s / symdiff s u / show s / update s 4 / update s 8 / subset v s / disjoint u v",
+        "[1, 2, 3, 4] / [3, 4] / [3] / [4] / 4 / nil / true / false / copied 10 of at most 12",
+        0,
+    ),
+    // oset_calls
+    (
+        CENSUS,
+        "let o = oset 5 3 / append o 3 / append o 4 / insert o 0 9 / swap o 0 1 / reverse o / show o / remove o 5 / removeat o 0 / place o 9 / at o 9",
+        "false / true / true / [4, 3, 9, 5] / 5 / 4 / 1 / ! out of range / copied 5 of at most 7",
+        0,
+    ),
     // a set that a statement leaves the same still shares its storage, and copies nothing
     (
         CENSUS,
