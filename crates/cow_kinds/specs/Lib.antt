@@ -1,3 +1,1 @@
-pub mod Dicts
-pub mod Sets
 pub mod Values

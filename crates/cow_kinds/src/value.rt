@@ -3,29 +3,29 @@ ghost use Rattle.std.proofs.Common.{refl};
 ghost use Rattle.std.specs.Prelude.{true};
 ghost use Rattle.cow_kinds.specs.Values as values;
 
-use crate::element::Element;
-use crate::{array, deque, dict, heap, oset, set, slice};
-use cow_array::{Array, ArraySlice};
+use crate::rebase::rebase;
 use cow_cell::{Holder, Stock};
-use cow_deque::Deque;
-use cow_dict::Dictionary;
-use cow_heap::Heap;
+use cow_elements::Element;
 use cow_model::{Kind, Literal, NoMemory, Refusal, Statement};
-use cow_ordered::OrderedSet;
-use cow_set::Set;
-use cow_value::{Collection, Shown, Values};
+use cow_value::{Collection, Holds, Shown, Values};
+use kind_array::{ArrayValue, SliceValue};
+use kind_deque::DequeValue;
+use kind_dict::DictValue;
+use kind_heap::HeapValue;
+use kind_oset::OrderedSetValue;
+use kind_set::SetValue;
 use std::alloc::Global;
 
 /// A value of any kind that is built.
 #[derive(Drop)]
 pub enum Value<T: Element<Q>, Q: Stock> {
-    Array(Array<T, Q>),
-    Slice(ArraySlice<T, Q>),
-    Deque(Deque<T, Q>),
-    Set(Set<T, Q>),
-    Dict(Dictionary<T, T, Q>),
-    OSet(OrderedSet<T, Q>),
-    Heap(Heap<T, Q>),
+    Array(ArrayValue<T, Q>),
+    Slice(SliceValue<T, Q>),
+    Deque(DequeValue<T, Q>),
+    Set(SetValue<T, Q>),
+    Dict(DictValue<T, Q>),
+    OSet(OrderedSetValue<T, Q>),
+    Heap(HeapValue<T, Q>),
 }
 
 // The call of each kind.
@@ -62,7 +62,39 @@ impl<T: Element<Q>, Q: Stock> Shown<Value<T, Q>> for Value<T, Q> {
     ghost seen = { values.seen };
 
     ghost counted = { T.is_counted };
+
+    ghost is_kind = { λ value. true };
 }
+
+// A kind of the enum.
+macro_rules! holds {
+    ($kind:ident, $variant:ident) => {
+        impl<T: Element<Q>, Q: Stock> Holds<$kind<T, Q>> for Value<T, Q> {
+            fn as_kind(&self) -> Option<&$kind<T, Q>> {
+                match self {
+                    Value::$variant(kind) => Some(kind),
+                    _ => None,
+                }
+            }
+
+            fn of(kind: $kind<T, Q>) -> Value<T, Q> {
+                Value::$variant(kind)
+            }
+        }
+    };
+}
+
+holds!(ArrayValue, Array);
+
+holds!(SliceValue, Slice);
+
+holds!(DequeValue, Deque);
+
+holds!(SetValue, Set);
+
+holds!(DictValue, Dict);
+
+holds!(OrderedSetValue, OSet);
 
 impl<T: Element<Q>, Q: Stock> Collection<Value<T, Q>, Q> for Value<T, Q> {
     ghost takes = { λ statement. true };
@@ -99,7 +131,7 @@ impl<T: Element<Q>, Q: Stock> Collection<Value<T, Q>, Q> for Value<T, Q> {
         h: &mut Holder<Q>,
     ) -> Result<Result<(), Refusal>, NoMemory> {
         if let Statement::Rebase { .. } = statement {
-            return slice::rebase(self, alloc, h);
+            return rebase(self, alloc, h);
         }
         each!(self, it => Collection::change(it, alloc, statement, text, h))
     }
@@ -159,6 +191,13 @@ impl<T: Element<Q>, Q: Stock> Collection<Value<T, Q>, Q> for Value<T, Q> {
     }
 }
 
+// A new value of one kind.
+macro_rules! made {
+    ($variant:ident, $kind:ident, $made:expr) => {
+        Ok(Value::$variant($kind { held: $made? }))
+    };
+}
+
 impl<T: Element<Q>, Q: Stock> Values<Q> for Value<T, Q> {
     fn make(
         alloc: Global,
@@ -167,12 +206,12 @@ impl<T: Element<Q>, Q: Stock> Values<Q> for Value<T, Q> {
         h: &mut Holder<Q>,
     ) -> Result<Value<T, Q>, NoMemory> {
         match kind {
-            Kind::Array => Ok(Value::Array(array::make(alloc, atoms, h)?)),
-            Kind::Deque => Ok(Value::Deque(deque::make(alloc, atoms, h)?)),
-            Kind::Set => Ok(Value::Set(set::make(alloc, atoms, h)?)),
-            Kind::Dict => Ok(Value::Dict(dict::make(alloc, atoms, h)?)),
-            Kind::OSet => Ok(Value::OSet(oset::make(alloc, atoms, h)?)),
-            Kind::Heap => Ok(Value::Heap(heap::make(alloc, atoms, h)?)),
+            Kind::Array => made!(Array, ArrayValue, kind_array::make(alloc, atoms, h)),
+            Kind::Deque => made!(Deque, DequeValue, kind_deque::make(alloc, atoms, h)),
+            Kind::Set => made!(Set, SetValue, kind_set::make(alloc, atoms, h)),
+            Kind::Dict => made!(Dict, DictValue, kind_dict::make(alloc, atoms, h)),
+            Kind::OSet => made!(OSet, OrderedSetValue, kind_oset::make(alloc, atoms, h)),
+            Kind::Heap => made!(Heap, HeapValue, kind_heap::make(alloc, atoms, h)),
             _ => unreachable!(),
         }
     }

@@ -6,6 +6,7 @@ use Rattle.cow_model.specs.Sharing.{Layer, literals}
 use Rattle.cow_model.specs.Turns.{added_of}
 use Rattle.cow_model.specs.Units.{nodes_of, units_of, tells_units}
 use Rattle.cow_model.specs.declared.plain.Literal.{Literal}
+use Rattle.cow_model.specs.declared.statement.Statement.TheOpen.{Statement-F}
 use Rattle.cow_model.specs.declared.value.Plain.{Plain}
 
 -- its plain value; whether it is known that no other handle holds its storage; and the units that the plain value doesn't tell
@@ -51,3 +52,8 @@ literals_of counted s = record { units = counted_in counted s; atoms = literals 
 -- what another value gives
 abbrev pub given_by : (Literal → Bool) → Layer → Seen → Brings
 given_by counted s other = record { units = units counted other; atoms = added_of s other.value; nodes = nodes_of other.value }
+
+-- `rebase` gives a value of another kind, so no kind does it by itself
+abbrev pub keeps_kind : Layer → Bool
+keeps_kind (Statement-F.Rebase l n) = false
+keeps_kind statement = true

@@ -1,4 +1,4 @@
-ghost use Rattle.std.specs.Prelude.{◌≡◌, ℕ, ◌+◌, ◌*◌, ◌≤◌, ◌++◌, [], Bool, true, false, Err, length, All, OnOk, OnErr, IfOk, MatchResult};
+ghost use Rattle.std.specs.Prelude.{◌≡◌, ℕ, ◌+◌, ◌*◌, ◌≤◌, ◌++◌, [], Bool, true, false, None, Err, length, All, OnOk, OnErr, IfOk, IfSome, MatchResult};
 ghost use Rattle.std.specs.Io.{StartsWith};
 ghost use Rattle.cow_model.specs.Answers.{refusal_in};
 ghost use Rattle.cow_model.specs.Atoms.{FitsTexts};
@@ -15,6 +15,7 @@ ghost use Rattle.cow_model.specs.Turns.{turn_of, turn_by_of, TellsParts};
 ghost use Rattle.cow_model.specs.Units.{nodes_of, units_of};
 ghost use Rattle.cow_model.specs.declared.plain.Literal.{Literal};
 ghost use Rattle.cow_model.specs.declared.statement.Statement.{out-Statement};
+ghost use Rattle.cow_model.specs.declared.value.Plain.{Plain};
 ghost use Rattle.cow_value.specs.Built.{is_built_kind};
 ghost use Rattle.cow_value.specs.Calls.{IsReady, Does, Costs, Tells, Made};
 ghost use Rattle.cow_value.specs.Seen.{Seen, shared, fresh, units, stored, literals_of, given_by};
@@ -30,6 +31,21 @@ pub trait Shown<V>: Sized + Drop {
 
     /// Which atoms take a unit.
     ghost counted: { Literal → Bool };
+
+    /// Which plain values are of its kind.
+    ghost is_kind: { Plain → Bool };
+}
+
+/// The type of the values of all kinds, as the kind `K` sees it.
+pub trait Holds<K: Shown<Self>>: Shown<Self> {
+    /// The value, where it is of the kind.
+    fn as_kind(&self) -> Option<&K>
+        ensures some { IfSome result (λ k. K.seen k.now ≡ Self.seen self.now) }
+        ensures none { result ≡ None → K.is_kind (Self.seen self.now).value ≡ false };
+
+    /// A value of the kind as one of all kinds.
+    fn of(kind: K) -> Self
+        ensures { Self.seen result ≡ K.seen kind };
 }
 
 /// A collection of one kind, or the type `V` of all kinds: what one statement does to a value of it.

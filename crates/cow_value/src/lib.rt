@@ -14,5 +14,5 @@
 mod collection;
 mod statements;
 
-pub use collection::{Collection, Shown, Values};
+pub use collection::{Collection, Holds, Shown, Values};
 pub use statements::{added, literals, unbuilt_line};

@@ -1,7 +1,0 @@
-use Rattle.cow_kinds.proofs.Equals.{tells-same}
-use Rattle.cow_kinds.proofs.deque.equal.Goals as goal
-
-pub returns-clause-ok : goal.returns-clause-ok
-returns-clause-ok g c =
-    let same = tells-same c.equals.result c.args.q.now.value c.args.other.now.value c.equals.ensures in
-    rw (← same) c.put_truth.ensures.ok

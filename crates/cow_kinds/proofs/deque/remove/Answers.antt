@@ -1,9 +1,0 @@
-use Rattle.std.proofs.Common.{arith}
-use Rattle.std.proofs.lemmas.Grind.{common_steps}
-use Rattle.cow_kinds.proofs.Units.{unit-of}
-use Rattle.cow_kinds.proofs.deque.remove.Goals as goal
-
-pub returns-in-Ok-clause-paid : goal.returns-in-Ok-clause-paid
-returns-in-Ok-clause-paid g c =
-    let one = unit-of g.T.Item.is_counted c.args.q.now.value _ (g.T.Item.plain c.in-Ok.old) c.in-Ok.ensures.old in
-    grind (arith, common_steps, one)

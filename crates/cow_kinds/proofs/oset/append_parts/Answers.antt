@@ -1,7 +1,0 @@
-use Rattle.std.proofs.Common.{arith}
-use Rattle.std.proofs.lemmas.Grind.{common_steps}
-use Rattle.cow_kinds.proofs.OrderedSets.{parts-append}
-use Rattle.cow_kinds.proofs.oset.append_parts.Goals as goal
-
-pub returns : goal.returns
-returns g c = parts-append _ c.args.atom.now c.args.s.now.value (grind (arith, common_steps, c.contains.ensures, c.by.ensures))

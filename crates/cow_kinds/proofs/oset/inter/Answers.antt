@@ -1,9 +1,0 @@
-use Rattle.std.proofs.Common.{arith}
-use Rattle.std.proofs.lemmas.Grind.{common_steps}
-use Rattle.cow_kinds.proofs.Sets.{length_inter}
-use Rattle.cow_kinds.proofs.oset.inter.Goals as goal
-
-pub returns-clause-paid : goal.returns-clause-paid
-returns-clause-paid g c =
-    let few = length_inter c.args.s.now.value c.args.other.now.value in
-    grind (arith, common_steps, few)

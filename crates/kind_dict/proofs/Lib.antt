@@ -1,0 +1,4 @@
+pub mod Apart
+pub mod DictCosts
+pub mod Dicts
+pub mod PairUnits

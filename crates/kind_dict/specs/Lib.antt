@@ -1,0 +1,2 @@
+pub mod Dicts
+pub mod Values

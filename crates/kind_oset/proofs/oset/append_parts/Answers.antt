@@ -1,0 +1,7 @@
+use Rattle.std.proofs.Common.{arith}
+use Rattle.std.proofs.lemmas.Grind.{common_steps}
+use Rattle.kind_oset.proofs.OrderedSets.{parts-append}
+use Rattle.kind_oset.proofs.oset.append_parts.Goals as goal
+
+pub returns : goal.returns
+returns g c = parts-append _ c.args.atom.now c.args.s.now.value (grind (arith, common_steps, c.contains.ensures, c.by.ensures))
