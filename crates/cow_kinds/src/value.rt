@@ -100,27 +100,27 @@ impl<T: Element<Q>, Q: Stock> Collection<Value<T, Q>, Q> for Value<T, Q> {
     ghost takes = { λ statement. true };
 
     fn count(&self) -> usize {
-        each!(self, it => Collection::count(it))
+        each!(self, it => Collection::<Value<T, Q>, Q>::count(it))
     }
 
     fn size(&self) -> usize {
-        each!(self, it => Collection::size(it))
+        each!(self, it => Collection::<Value<T, Q>, Q>::size(it))
     }
 
     fn stop(&self) -> usize {
-        each!(self, it => Collection::stop(it))
+        each!(self, it => Collection::<Value<T, Q>, Q>::stop(it))
     }
 
     fn copy(&mut self, h: &mut Holder<Q>) -> Value<T, Q> {
-        alike!(self, it => Collection::copy(it, h))
+        alike!(self, it => Collection::<Value<T, Q>, Q>::copy(it, h))
     }
 
     fn end(self, h: &mut Holder<Q>) {
-        each!(self, it => Collection::end(it, h))
+        each!(self, it => Collection::<Value<T, Q>, Q>::end(it, h))
     }
 
     fn put(&self, text: &mut Vec<u8>) -> Result<(), NoMemory> {
-        each!(self, it => Collection::put(it, text))
+        each!(self, it => Collection::<Value<T, Q>, Q>::put(it, text))
     }
 
     fn change(
@@ -133,7 +133,7 @@ impl<T: Element<Q>, Q: Stock> Collection<Value<T, Q>, Q> for Value<T, Q> {
         if let Statement::Rebase { .. } = statement {
             return rebase(self, alloc, h);
         }
-        each!(self, it => Collection::change(it, alloc, statement, text, h))
+        each!(self, it => Collection::<Value<T, Q>, Q>::change(it, alloc, statement, text, h))
     }
 
     fn change_by(
@@ -142,27 +142,27 @@ impl<T: Element<Q>, Q: Stock> Collection<Value<T, Q>, Q> for Value<T, Q> {
         other: &Value<T, Q>,
         h: &mut Holder<Q>,
     ) -> Result<Result<(), Refusal>, NoMemory> {
-        each!(self, it => Collection::change_by(it, statement, other, h))
+        each!(self, it => Collection::<Value<T, Q>, Q>::change_by(it, statement, other, h))
     }
 
     fn refusal_by(&self, statement: &Statement, other: &Value<T, Q>) -> Option<Refusal> {
-        each!(self, it => Collection::refusal_by(it, statement, other))
+        each!(self, it => Collection::<Value<T, Q>, Q>::refusal_by(it, statement, other))
     }
 
     fn parts(&self, statement: &Statement) -> bool {
-        each!(self, it => Collection::parts(it, statement))
+        each!(self, it => Collection::<Value<T, Q>, Q>::parts(it, statement))
     }
 
     fn parts_by(&self, statement: &Statement, other: &Value<T, Q>) -> bool {
-        each!(self, it => Collection::parts_by(it, statement, other))
+        each!(self, it => Collection::<Value<T, Q>, Q>::parts_by(it, statement, other))
     }
 
     fn cost(&self, statement: &Statement, alone: bool) -> usize {
-        each!(self, it => Collection::cost(it, statement, alone))
+        each!(self, it => Collection::<Value<T, Q>, Q>::cost(it, statement, alone))
     }
 
     fn both_cost(&self, alone: bool) -> usize {
-        each!(self, it => Collection::both_cost(it, alone))
+        each!(self, it => Collection::<Value<T, Q>, Q>::both_cost(it, alone))
     }
 
     fn tell(
@@ -170,7 +170,7 @@ impl<T: Element<Q>, Q: Stock> Collection<Value<T, Q>, Q> for Value<T, Q> {
         statement: &Statement,
         text: &mut Vec<u8>,
     ) -> Result<Result<(), Refusal>, NoMemory> {
-        each!(self, it => Collection::tell(it, statement, text))
+        each!(self, it => Collection::<Value<T, Q>, Q>::tell(it, statement, text))
     }
 
     fn tell_both(
@@ -179,15 +179,15 @@ impl<T: Element<Q>, Q: Stock> Collection<Value<T, Q>, Q> for Value<T, Q> {
         other: &Value<T, Q>,
         text: &mut Vec<u8>,
     ) -> Result<Result<(), Refusal>, NoMemory> {
-        each!(self, it => Collection::tell_both(it, statement, other, text))
+        each!(self, it => Collection::<Value<T, Q>, Q>::tell_both(it, statement, other, text))
     }
 
     fn slice(&mut self, i: i64, j: i64, h: &mut Holder<Q>) -> Result<Value<T, Q>, Refusal> {
-        each!(self, it => Collection::slice(it, i, j, h))
+        each!(self, it => Collection::<Value<T, Q>, Q>::slice(it, i, j, h))
     }
 
     fn slice_refusal(&self, i: i64, j: i64) -> Option<Refusal> {
-        each!(self, it => Collection::slice_refusal(it, i, j))
+        each!(self, it => Collection::<Value<T, Q>, Q>::slice_refusal(it, i, j))
     }
 }
 
