@@ -32,7 +32,11 @@ fn insert<Q: Stock>(s: &mut Heap<i64, Q>, x: i64, h: &mut Holder<Q>) -> Result<(
 }
 
 /// A heap of the numbers, added one by one.
-fn filled<Q: Stock>(alloc: Global, task: Task, h: &mut Holder<Q>) -> Result<Heap<i64, Q>, NoMemory> {
+fn filled<Q: Stock>(
+    alloc: Global,
+    task: Task,
+    h: &mut Holder<Q>,
+) -> Result<Heap<i64, Q>, NoMemory> {
     ready(0, h)?;
     let mut s = Heap::<i64, Q>::new(alloc, h)?;
     for i in 0..task.size {

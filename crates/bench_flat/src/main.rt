@@ -44,7 +44,10 @@ enum Workload {
 const WORKLOADS: [(&str, Workload); 38] = [
     ("deque-append", Workload::Deque(deque::Workload::Append)),
     ("deque-prepend", Workload::Deque(deque::Workload::Prepend)),
-    ("deque-pop-first", Workload::Deque(deque::Workload::PopFirst)),
+    (
+        "deque-pop-first",
+        Workload::Deque(deque::Workload::PopFirst),
+    ),
     ("deque-pop-last", Workload::Deque(deque::Workload::PopLast)),
     ("deque-queue", Workload::Deque(deque::Workload::Queue)),
     ("deque-rotate", Workload::Deque(deque::Workload::Rotate)),
@@ -58,8 +61,14 @@ const WORKLOADS: [(&str, Workload); 38] = [
     ("heap-pop-min", Workload::Heap(heap::Workload::PopMin)),
     ("heap-pop-max", Workload::Heap(heap::Workload::PopMax)),
     ("heap-build", Workload::Heap(heap::Workload::Build)),
-    ("heap-replace-min", Workload::Heap(heap::Workload::ReplaceMin)),
-    ("heap-replace-max", Workload::Heap(heap::Workload::ReplaceMax)),
+    (
+        "heap-replace-min",
+        Workload::Heap(heap::Workload::ReplaceMin),
+    ),
+    (
+        "heap-replace-max",
+        Workload::Heap(heap::Workload::ReplaceMax),
+    ),
     ("heap-copy", Workload::Heap(heap::Workload::Copy)),
     ("oset-append", Workload::Set(set::Workload::Append)),
     ("oset-find", Workload::Set(set::Workload::Find)),
@@ -70,16 +79,34 @@ const WORKLOADS: [(&str, Workload); 38] = [
     ("oset-remove", Workload::Set(set::Workload::Remove)),
     ("oset-insert", Workload::Set(set::Workload::Insert)),
     ("oset-union", Workload::Set(set::Workload::Union)),
-    ("oset-intersection", Workload::Set(set::Workload::Intersection)),
+    (
+        "oset-intersection",
+        Workload::Set(set::Workload::Intersection),
+    ),
     ("oset-copy", Workload::Set(set::Workload::Copy)),
     ("odict-put", Workload::Dictionary(dictionary::Workload::Put)),
     ("odict-get", Workload::Dictionary(dictionary::Workload::Get)),
-    ("odict-miss", Workload::Dictionary(dictionary::Workload::Miss)),
-    ("odict-update", Workload::Dictionary(dictionary::Workload::Update)),
+    (
+        "odict-miss",
+        Workload::Dictionary(dictionary::Workload::Miss),
+    ),
+    (
+        "odict-update",
+        Workload::Dictionary(dictionary::Workload::Update),
+    ),
     ("odict-pop", Workload::Dictionary(dictionary::Workload::Pop)),
-    ("odict-remove", Workload::Dictionary(dictionary::Workload::Remove)),
-    ("odict-walk", Workload::Dictionary(dictionary::Workload::Walk)),
-    ("odict-copy", Workload::Dictionary(dictionary::Workload::Copy)),
+    (
+        "odict-remove",
+        Workload::Dictionary(dictionary::Workload::Remove),
+    ),
+    (
+        "odict-walk",
+        Workload::Dictionary(dictionary::Workload::Walk),
+    ),
+    (
+        "odict-copy",
+        Workload::Dictionary(dictionary::Workload::Copy),
+    ),
 ];
 
 /// The kinds of keys, each with its word and with what the numbers from 0 on are multiplied by.
