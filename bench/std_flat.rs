@@ -393,7 +393,7 @@ mod index {
                 }
                 "update" => {
                     for i in 0..task.size {
-                        sum = sum.wrapping_add(d.insert(task.number(i), i as i64).unwrap_or(0));
+                        sum = sum.wrapping_add(d.insert(task.number(i), task.number(i)).unwrap_or(0));
                     }
                 }
                 "pop" => {

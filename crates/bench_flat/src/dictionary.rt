@@ -91,7 +91,7 @@ fn updated<Q: Stock>(alloc: Global, task: Task, h: &mut Holder<Q>) -> Result<i64
     let mut sum = 0i64;
     for _ in 0..task.rounds {
         for i in 0..task.size {
-            sum = sum.wrapping_add(put(&mut d, task.number(i), i as i64, h)?);
+            sum = sum.wrapping_add(put(&mut d, task.number(i), task.number(i), h)?);
         }
     }
     d.end(h);
