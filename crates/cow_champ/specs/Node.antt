@@ -34,6 +34,10 @@ module _ {X Y : Type 0} (KeySettled : X → Type 0) (ValueSettled : Y → Type 0
   abbrev pub BothSettled : Entry X Y → Type 0
   BothSettled e = KeySettled e.key × ValueSettled e.value
 
+  -- so are those behind two references
+  abbrev pub SeenSettled : Bor X × Bor Y → Type 0
+  SeenSettled t = KeySettled t.0.now × ValueSettled t.1.now
+
 -- a child's handle is settled, and its node is whole
 module _ {C Z : Type 0} (Whole : C → Type 0) where
   abbrev pub IsWholeChild : Counted C Z → Type 0

@@ -2,7 +2,7 @@ ghost use Rattle.std.specs.Prelude.{◌≡◌, ◌≤◌, ◌<◌, ◌+◌, ◌*
 ghost use Rattle.std.specs.List.{list_all};
 ghost use Rattle.cow_model.specs.Canon.{Tree, pairs, canon, is_one, IsCanonical, IsDistinct, AgreeBelow};
 ghost use Rattle.cow_model.specs.declared.plain.Literal.{Literal};
-ghost use Rattle.cow_champ.specs.Node.{hashed, both, seen_pair};
+ghost use Rattle.cow_champ.specs.Node.{hashed, both, seen_pair, SeenSettled};
 ghost use Rattle.cow_champ.specs.Words.{size, held, alike, with_pair, Appends};
 ghost use Rattle.cow_champ.specs.Spending.{Own, unshared, CopiesNode, Unshares, put_need, Puts, PutsIn, on_path, Copies, build_need};
 
@@ -60,13 +60,14 @@ pub trait Level<K: Key<Q>, V: Item<Q>, Q: Stock>: Sized + Drop {
         requires canonical { IsCanonical K.hash_of (shape self.now) LEVEL }
         ensures { result ≡ alike K.hash_of hash (shape self.now) };
 
-    /// Every pair stands last in `into`, by ascending digits of the hashes and, where those are equal, by key. Linear
-    /// in their number. Takes memory where `into` grows; refused, `into` is as it was.
+    /// Every pair stands last in `into`, by ascending digits of the hashes and, where those are equal, by key; keys and
+    /// values are settled, so that they can be copied. Linear in their number. Takes memory where `into` grows; refused, `into` is as it was.
     fn walk<'a>(&'a self, into: &mut Vec<(&'a K, &'a V)>) -> Result<(), NoMemory>
         requires stacked { Stacked }
         requires whole { IsWhole self.now }
         ensures ok { OnOk result
-            (Appends (seen_pair K.plain V.plain) (pairs (shape self.now)) into.old.items into.new.items) }
+            (Appends (seen_pair K.plain V.plain) (SeenSettled K.IsSettled V.IsSettled)
+            (pairs (shape self.now)) into.old.items into.new.items) }
         ensures refused { OnErr result (into.new.items ≡ into.old.items) };
 
     /// Whether a test is true of every pair. The test answers by the plain pair alone. It is asked of no pair after

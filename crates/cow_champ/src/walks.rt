@@ -3,7 +3,7 @@ ghost use Rattle.std.specs.Prelude.{◌≡◌, ◌<◌, Bool, OnOk, OnErr};
 ghost use Rattle.std.specs.List.{list_all};
 ghost use Rattle.cow_model.specs.Canon.{slot_pairs};
 ghost use Rattle.cow_model.specs.declared.plain.Literal.{Literal};
-ghost use Rattle.cow_champ.specs.Node.{seen_pair, slots_of};
+ghost use Rattle.cow_champ.specs.Node.{seen_pair, SeenSettled, slots_of};
 ghost use Rattle.cow_champ.specs.Words.{Appends};
 
 use crate::bits::{has, place};
@@ -22,7 +22,7 @@ pub(crate) fn walk_at<'a, K: Key<Q>, V: Item<Q>, C: Level<K, V, Q>, Q: Stock, co
     requires stacked { ⟦<Branch<K, V, C, Q, AT> as Level<K, V, Q>>⟧.Stacked }
     requires whole { ⟦<Branch<K, V, C, Q, AT> as Level<K, V, Q>>⟧.IsWhole n.now }
     requires small { d < 32 }
-    ensures ok { OnOk result (Appends (seen_pair K.plain V.plain)
+    ensures ok { OnOk result (Appends (seen_pair K.plain V.plain) (SeenSettled K.IsSettled V.IsSettled)
         (slot_pairs (slots_of K.plain V.plain C.shape n.now.data n.now.nodes n.now.entries.items n.now.children.items d)) into.old.items into.new.items) }
     ensures refused { OnErr result (into.new.items ≡ into.old.items) }
 {

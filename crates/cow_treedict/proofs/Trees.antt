@@ -29,7 +29,7 @@ use Rattle.cow_dict.proofs.Sides.{sum-by_key}
 use Rattle.cow_treedict.specs.Trees.{alike, on_path}
 
 -- what a test counts
-abbrev one_if : Bool → ℕ
+abbrev pub one_if : Bool → ℕ
 one_if b = cond b 1 0
 
 -- ---- keys that are one

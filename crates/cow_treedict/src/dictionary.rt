@@ -1,26 +1,33 @@
-ghost use Rattle.std.specs.Prelude.{◌≡◌, ◌+◌, ◌*◌, ◌<◌, ◌≤◌, ◌^◌, [], length, map, IfOk, IfErr, OnOk, OnErr, option_map, is_none, IsTrue, ◌↔◌, true, false};
-ghost use Rattle.cow_champ.specs.Node.{seen_pair};
+ghost use Rattle.std.specs.Prelude.{◌≡◌, ◌+◌, ◌*◌, ◌<◌, ◌≤◌, ◌^◌, ◌++◌, [], length, map, vec_len, vec_capacity, IfOk, IfErr, OnOk, OnErr, option_map, is_none, All, IsTrue, ◌↔◌, true, false};
+ghost use Rattle.cow_champ.specs.Node.{seen_pair, SeenSettled, hashed};
 ghost use Rattle.cow_champ.specs.Spending.{Spends, Copies, put_need};
-ghost use Rattle.cow_dict.specs.Dictionaries.{has, holds};
+ghost use Rattle.cow_dict.specs.Dictionaries.{has, holds, takes};
 ghost use Rattle.cow_dict.specs.Storages.{pair_of, keys, by_key};
 ghost use Rattle.cow_members.specs.Ascents.{Ascends};
+ghost use Rattle.cow_members.specs.Sets.{ChangesTo, Untouched};
+ghost use Rattle.cow_model.specs.Canon.{IsDistinct};
 ghost use Rattle.cow_model.specs.Flat.{Becomes, need, settled};
-ghost use Rattle.cow_model.specs.Pairs.{in_order, value_in, put};
+ghost use Rattle.cow_model.specs.Pairs.{in_order, value_in, put, merge};
 ghost use Rattle.cow_model.specs.Purse.{less, unit_if};
-ghost use Rattle.cow_treedict.specs.Trees.{alike, on_path, HandsBoth};
+ghost use Rattle.cow_treedict.specs.Trees.{alike, on_path, map_from, plain_pair, others_of, IsHashed, HandsBoth};
 
+use crate::distinct::distinct;
+use crate::merging::{copy_all, push_copy};
 use cow_cell::{Counted, Holder, Stock};
 use cow_champ::Level;
+use cow_dict::Merge;
 use cow_item::{Equivalent, Item, Key};
 use cow_model::NoMemory;
 use std::alloc::Global;
 use std::marker::{Model, PhantomData};
+use std::mem::replace;
 
 /// A persistent dictionary of keys and values, after `TreeDictionary` of swift-collections: a trie whose nodes are shared
 /// between copies until one of them is changed.
 ///
 /// A call on one key takes one step for each level of the trie down to the key, which are seven at most, and below the
-/// last of them one for each key of that hash. Only `new`, `update`, `references` and `sorted` take memory.
+/// last of them one for each key of that hash. Only `new`, `from_pairs`, `update`, `merge`, `references` and `sorted` take
+/// memory.
 #[derive(Drop)]
 pub struct TreeDictionary<K: Key<Q>, V: Item<Q>, Q: Stock, C: Level<K, V, Q>> {
     root: Counted<C, Q>,
@@ -63,6 +70,56 @@ impl<K: Key<Q>, V: Item<Q>, Q: Stock, C: Level<K, V, Q>> TreeDictionary<K, V, Q,
             }),
             Err((refused, _node)) => Err(refused),
         }
+    }
+
+    /// The dictionary that an empty one becomes when it is updated with the pairs in order: Swift's
+    /// `init(_:uniquingKeysWith:)` with the last value of a key, and `init(uniqueKeysWithValues:)` where the keys differ. Of
+    /// keys that are the same the first stays. The items are moved in, and none is copied: a few steps a pair, and one for
+    /// each level that it passes. Takes memory for the nodes, and meanwhile for a table of the pairs; refused, the items
+    /// are ended.
+    pub fn from_pairs(
+        alloc: Global,
+        pairs: Vec<(K, V)>,
+        h: &mut Holder<Q>,
+    ) -> Result<TreeDictionary<K, V, Q, C>, NoMemory>
+        requires root { C.LEVEL ≡ 0 }
+        requires stacked { C.Stacked }
+        requires growth { length pairs.items < 2 ^ 31 }
+        requires spare { need (length pairs.items) ≤ h.old.spare }
+        ensures ok { IfOk result
+            (λ d. Becomes (map_from (map (plain_pair K.plain V.plain) pairs.items)) d) }
+        ensures spare { h.old.spare ≤ h.new.spare + need (length pairs.items) }
+        ensures copied { h.new.copied ≡ h.old.copied }
+    {
+        let pairs = distinct(alloc, pairs, h)?;
+        TreeDictionary::built(alloc, pairs, h)
+    }
+
+    /// A dictionary of these pairs, whose keys differ. Refused, they are ended.
+    fn built(
+        alloc: Global,
+        pairs: Vec<(u32, K, V)>,
+        h: &mut Holder<Q>,
+    ) -> Result<TreeDictionary<K, V, Q, C>, NoMemory>
+        requires root { C.LEVEL ≡ 0 }
+        requires stacked { C.Stacked }
+        requires hashes { All (IsHashed K.hash_of K.plain) pairs.items }
+        requires distinct { IsDistinct (map (hashed K.plain V.plain) pairs.items) }
+        requires small { length pairs.items < 2 ^ 31 }
+        requires spare { 14 * length pairs.items + 1 ≤ h.old.spare }
+        ensures ok { IfOk result
+            (λ d. Becomes (by_key (map (hashed K.plain V.plain) pairs.items)) d) }
+        ensures spare { h.old.spare ≤ h.new.spare + (14 * length pairs.items + 1) }
+        ensures copied { h.new.copied ≡ h.old.copied }
+    {
+        let count = pairs.len();
+        let root = C::build(alloc, pairs, h)?;
+        Ok(TreeDictionary {
+            root,
+            count,
+            alloc,
+            marker: PhantomData,
+        })
     }
 
     /// How many pairs there are: Swift's `count`. One step.
@@ -175,11 +232,106 @@ impl<K: Key<Q>, V: Item<Q>, Q: Stock, C: Level<K, V, Q>> TreeDictionary<K, V, Q,
         Ok(old)
     }
 
+    /// The keys of either: Swift's `merge(_:uniquingKeysWith:)`. Under a key of both stands the value that the rule says.
+    /// Takes memory for the nodes of a new trie, of copies of all pairs, and puts it in place at the end; linear in the
+    /// number of pairs, and a look-up for each of those that the rule sets back. Where `other` is empty, nothing happens.
+    pub fn merge(
+        &mut self,
+        other: &TreeDictionary<K, V, Q, C>,
+        rule: Merge,
+        h: &mut Holder<Q>,
+    ) -> Result<(), NoMemory>
+        requires growth { length self.old.value + length other.now.value < 2 ^ 31 }
+        requires spare { need (length self.old.value + length other.now.value) ≤ h.old.spare }
+        ensures ok { OnOk result
+            (ChangesTo (merge in_order (takes rule) self.old.value other.now.value) self.old self.new) }
+        ensures empty { other.now.value ≡ [] → Untouched result self.old self.new h.old h.new }
+        ensures refused { OnErr result (self.new ≡ self.old) }
+        ensures spent { Spends (need (length self.old.value + length other.now.value))
+            ((K.WEIGHT + V.WEIGHT) * (length self.old.value + length other.now.value)) h.old h.new }
+    {
+        if other.is_empty() {
+            return Ok(());
+        }
+        let merged = self.merged(other, rule, h)?;
+        let old = replace(self, merged);
+        old.end(h);
+        Ok(())
+    }
+
+    /// What `merge` makes of the two, of copies.
+    fn merged(
+        &self,
+        other: &TreeDictionary<K, V, Q, C>,
+        rule: Merge,
+        h: &mut Holder<Q>,
+    ) -> Result<TreeDictionary<K, V, Q, C>, NoMemory>
+        requires growth { length self.now.value + length other.now.value < 2 ^ 31 }
+        requires spare { need (length self.now.value + length other.now.value) ≤ h.old.spare }
+        ensures ok { IfOk result
+            (λ d. Becomes (merge in_order (takes rule) self.now.value other.now.value) d) }
+        ensures spent { Spends (need (length self.now.value + length other.now.value))
+            ((K.WEIGHT + V.WEIGHT) * (length self.now.value + length other.now.value)) h.old h.new }
+    {
+        match rule {
+            Merge::Keep => self.joined(other, h),
+            Merge::Take => other.joined(self, h),
+        }
+    }
+
+    /// A dictionary of copies: of all these pairs, and of those of `other` whose key isn't one of these.
+    fn joined(
+        &self,
+        other: &TreeDictionary<K, V, Q, C>,
+        h: &mut Holder<Q>,
+    ) -> Result<TreeDictionary<K, V, Q, C>, NoMemory>
+        requires growth { length self.now.value + length other.now.value < 2 ^ 31 }
+        requires spare { need (length self.now.value + length other.now.value) ≤ h.old.spare }
+        ensures ok { IfOk result
+            (λ d. Becomes (merge in_order false self.now.value other.now.value) d) }
+        ensures distinct { IfOk result
+            (λ _. Ascends (keys self.now.value) × Ascends (keys other.now.value)) }
+        ensures spent { Spends (need (length self.now.value + length other.now.value))
+            ((K.WEIGHT + V.WEIGHT) * (length self.now.value + length other.now.value)) h.old h.new }
+    {
+        let mine = self.references(self.alloc)?;
+        let theirs = other.references(self.alloc)?;
+        let Ok(mut pairs) = Vec::with_capacity(self.alloc, mine.len() + theirs.len()) else {
+            return Err(NoMemory);
+        };
+        copy_all(&mine, &mut pairs, h);
+        self.copy_others(&theirs, &mut pairs, h);
+        TreeDictionary::built(self.alloc, pairs, h)
+    }
+
+    /// Copies of those pairs whose key isn't one of these stand last in `into`, in their order.
+    fn copy_others(&self, pairs: &Vec<(&K, &V)>, into: &mut Vec<(u32, K, V)>, h: &mut Holder<Q>)
+        requires settled { All (SeenSettled K.IsSettled V.IsSettled) pairs.now.items }
+        requires room { vec_len into.old + length pairs.now.items ≤ vec_capacity into.old }
+        requires spare { 2 * length pairs.now.items ≤ h.old.spare }
+        requires hashes { All (IsHashed K.hash_of K.plain) into.old.items }
+        ensures hashes { All (IsHashed K.hash_of K.plain) into.new.items }
+        ensures same { map (hashed K.plain V.plain) into.new.items
+            ≡ map (hashed K.plain V.plain) into.old.items
+            ++ others_of self.now.value (map (seen_pair K.plain V.plain) pairs.now.items) }
+        ensures most { vec_len into.new ≤ vec_len into.old + length pairs.now.items }
+        ensures spent { Spends (2 * length pairs.now.items)
+            ((K.WEIGHT + V.WEIGHT) * length pairs.now.items) h.old h.new }
+    {
+        for t in pairs {
+            if !self.contains_key(t.0) {
+                push_copy(into, t.0, t.1, h);
+            }
+        }
+    }
+
     /// References to the pairs, by ascending digits of the hashes of their keys, and by key where the hashes are equal.
     /// Takes memory for them. Linear in their number.
     pub fn references(&self, alloc: Global) -> Result<Vec<(&K, &V)>, NoMemory>
         ensures value { IfOk result
             (λ v. by_key (map (seen_pair K.plain V.plain) v.items) ≡ self.now.value) }
+        ensures settled { IfOk result
+            (λ v. All (SeenSettled K.IsSettled V.IsSettled) v.items) }
         ensures distinct { Ascends (keys self.now.value) }
     {
         let mut pairs = Vec::new(alloc);

@@ -6,7 +6,8 @@
 //!
 //! Contracts see a dictionary as the list of its pairs by ascending key and whether the handle is known to be alone
 //! (`docs/CONTRACTS.md`). A tree has no room: that field is 0. A change takes the memory of its whole path before anything
-//! that is shown changes, so an answer `NoMemory` leaves every value as it was and hands back what was given. The pairs
+//! that is shown changes, so an answer `NoMemory` leaves every value as it was and hands back what was given; only
+//! `from_pairs` ends the items that it was given. The pairs
 //! are read by `get`, by ascending key by `sorted`, or by ascending digits of their hashes by `references`.
 //!
 //! The invariant: the root's node is whole, of level 0, and has the canonical shape of its pairs, whatever the changes
@@ -15,12 +16,16 @@
 //! The last parameter of the type is the root's node type. Whatever works on trees is generic in it, and a `Task` of
 //! `cow_champ` makes it; [`Tree`] is the type that it then is.
 //!
-//! `new`, `references`, `sorted` and `update` may always answer want of memory by their contracts; a test shows that they
-//! succeed. How many nodes `update` copies depends on who else holds them, so its contract bounds the copies of an alone
+//! `dictionary` has the type and its calls, `distinct` the pairs that `from_pairs` builds a trie of, `merging` the copies
+//! of those that `merge` does, and `tree` the type of a root.
+//!
+//! Every call that takes memory may always answer want of it by its contract; tests show that they succeed. How many nodes `update` copies depends on who else holds them, so its contract bounds the copies of an alone
 //! dictionary too, and a test shows that there are none where nobody else holds the trie.
 #![tactic(auto)]
 
 mod dictionary;
+mod distinct;
+mod merging;
 mod tree;
 
 pub use dictionary::TreeDictionary;

@@ -3,3 +3,7 @@
 
 #[cfg(test)]
 mod dictionary;
+#[cfg(test)]
+mod making;
+#[cfg(test)]
+mod threads;

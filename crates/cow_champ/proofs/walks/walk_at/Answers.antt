@@ -3,7 +3,7 @@ use Rattle.std.proofs.Common.{◌≡◌, ◌∙◌, ℕ, ◌+◌, ◌<◌, ◌�
 use Rattle.cow_model.specs.Canon.{Slot, entry, child, free, slot_pairs, pairs}
 use Rattle.cow_model.proofs.CanonSlots.{slot_pairs-entry, slot_pairs-child, slot_pairs-free}
 use Rattle.cow_model.proofs.CanonRows.{entry_place, child_place, All_at}
-use Rattle.cow_champ.specs.Node.{pair_of, seen_pair, slots_of, value_of, IsWholeChild}
+use Rattle.cow_champ.specs.Node.{pair_of, seen_pair, SeenSettled, BothSettled, slots_of, value_of, IsWholeChild}
 use Rattle.cow_champ.proofs.Appending.{appends_none, appends_one, appends_is}
 use Rattle.cow_champ.proofs.Changes.{pushed}
 use Rattle.cow_champ.proofs.Outcomes.{OnOk_map}
@@ -31,17 +31,18 @@ returns-else-is_err-clause-ok g c =
     let within : c.place.result < length c.args.n.now.entries.items = rw c.place.ensures (entry_place _ c.args.n.now.nodes _ _ _ c.requires.whole.0 c.requires.small (sym c.has.ensures ∙ c.if-has.true)) in
     let p = pair_of g.K.Item.plain g.V.Item.plain c.index-e.result.now in
     let here = slots_entry g.K.Item.plain g.V.Item.plain g.C.Level.shape c.args.n.now.data c.args.n.now.nodes c.args.n.now.entries.items c.args.n.now.children.items c.args.d (sym c.has.ensures ∙ c.if-has.true) _ c.place.ensures within _ c.index-e.ensures in
-    appends_is _ (p ∷ []) _ _ _ (sym (ap slot_pairs here ∙ slot_pairs-entry p))
-    (appends_one (seen_pair g.K.Item.plain g.V.Item.plain) _ _ _ p (pushed _ _ _ _ (sym c.is_err.ensures.value ∙ c.if-is_err.false) c.push.ensures.items) refl)
+    appends_is _ (SeenSettled g.K.Item.IsSettled g.V.Item.IsSettled) (p ∷ []) _ _ _ (sym (ap slot_pairs here ∙ slot_pairs-entry p))
+    (appends_one (seen_pair g.K.Item.plain g.V.Item.plain) (SeenSettled g.K.Item.IsSettled g.V.Item.IsSettled) _ _ _ p (pushed _ _ _ _ (sym c.is_err.ensures.value ∙ c.if-is_err.false) c.push.ensures.items) refl
+    (All_at (BothSettled g.K.Item.IsSettled g.V.Item.IsSettled) c.args.n.now.entries.items c.requires.whole.1 c.place.result within c.index-e.result.now c.index-e.ensures))
 
 pub returns-then-has-2-clause-ok : goal.returns-then-has-2-clause-ok
 returns-then-has-2-clause-ok g c =
     let within : c.place-then-has-2.result < length c.args.n.now.children.items = rw c.place-then-has-2.ensures (child_place c.args.n.now.data _ _ _ _ c.requires.whole.0 c.requires.small (sym c.has-else-has.ensures ∙ c.if-has-2.true)) in
     let here = slots_child g.K.Item.plain g.V.Item.plain g.C.Level.shape c.args.n.now.data c.args.n.now.nodes c.args.n.now.entries.items c.args.n.now.children.items c.args.d (sym c.has.ensures ∙ c.if-has.false) (sym c.has-else-has.ensures ∙ c.if-has-2.true) _ c.place-then-has-2.ensures within c.index.result.now c.index.ensures in
     let at : g.C.Level.shape c.get.result.now ≡ g.C.Level.shape (value_of c.index.result.now) = ap g.C.Level.shape c.get.ensures in
-    OnOk_map _ (appends_is (seen_pair g.K.Item.plain g.V.Item.plain) _ _ _ _ (ap pairs at ∙ sym (ap slot_pairs here ∙ slot_pairs-child (g.C.Level.shape (value_of c.index.result.now))))) c.walk.ensures.ok
+    OnOk_map _ (appends_is (seen_pair g.K.Item.plain g.V.Item.plain) (SeenSettled g.K.Item.IsSettled g.V.Item.IsSettled) _ _ _ _ (ap pairs at ∙ sym (ap slot_pairs here ∙ slot_pairs-child (g.C.Level.shape (value_of c.index.result.now))))) c.walk.ensures.ok
 
 pub returns-else-has-2-clause-ok : goal.returns-else-has-2-clause-ok
 returns-else-has-2-clause-ok g c =
     let here = slots_free g.K.Item.plain g.V.Item.plain g.C.Level.shape c.args.n.now.data c.args.n.now.nodes c.args.n.now.entries.items c.args.n.now.children.items c.args.d (sym c.has.ensures ∙ c.if-has.false) (sym c.has-else-has.ensures ∙ c.if-has-2.false) in
-    appends_is (seen_pair g.K.Item.plain g.V.Item.plain) [] _ _ _ (sym (ap slot_pairs here ∙ slot_pairs-free)) (appends_none _ _)
+    appends_is (seen_pair g.K.Item.plain g.V.Item.plain) (SeenSettled g.K.Item.IsSettled g.V.Item.IsSettled) [] _ _ _ (sym (ap slot_pairs here ∙ slot_pairs-free)) (appends_none _ _ _)
