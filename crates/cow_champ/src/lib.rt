@@ -21,9 +21,8 @@
 //!
 //! - `Level`: the calls, each with one contract for all levels. Contracts speak of a node's `shape` and its `pairs`,
 //!   of `copied` and of spare, and of no bit map, row or handle.
-//! - `Task`, `over_levels`: tries of seven branches over a collision node. Whatever works on tries is generic in the
-//!   root's type; that type is made in `stack` alone, a level at a time, since a function that names a stack of levels
-//!   costs the check the more, the more levels it names.
+//! - `Branch` and `Collide`, to put levels on one another. Whatever works on tries is generic in the root's type;
+//!   `cow_levels` makes that type.
 //!
 //! | module | what it has |
 //! |---|---|
@@ -31,7 +30,6 @@
 //! | `collide`, `branch` | the two kinds of nodes |
 //! | `bits`, `keys`, `rows` | digits and bit maps; keys by plain values; rows of pairs and of handles |
 //! | `walks`, `groups` | what stands at a digit, for walks; pairs by digit, for `build` |
-//! | `stack` | the levels, put on one another |
 //!
 //! # What the contracts leave open
 //!
@@ -47,10 +45,8 @@ mod groups;
 mod keys;
 mod level;
 mod rows;
-mod stack;
 mod walks;
 
 pub use branch::Branch;
 pub use collide::Collide;
 pub use level::Level;
-pub use stack::{Task, over_levels};

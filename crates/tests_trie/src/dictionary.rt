@@ -5,7 +5,8 @@ ghost use Rattle.cow_cell.specs.Opens.{Opens};
 ghost use Rattle.cow_model.specs.Flat.{need};
 
 use cow_cell::{Holder, Opening, Stock};
-use cow_champ::{Level, Task, over_levels};
+use cow_champ::Level;
+use cow_levels::{Task, over_levels};
 use cow_treedict::TreeDictionary;
 use std::alloc::Global;
 use std::marker::Brand;

@@ -1,11 +1,15 @@
-// The levels, put on one another. A function that names a stack of levels costs the check the more, the more levels
-// it names; so each here names one level over a level that it doesn't know.
+//! Tries of seven branches over a collision node: the levels of `cow_champ`, put on one another.
+//!
+//! Whatever works on tries is generic in the root's type. That type is made here alone, a level at a time: a function
+//! that names a stack of levels costs the check the more, the more levels it names, so each here names one level over a
+//! level that it doesn't know. There is no invariant. The layer above makes a [`Task`] of what it does, and runs it by
+//! [`over_levels`].
+#![tactic(auto)]
+
 ghost use Rattle.std.specs.Prelude.{◌≡◌, ℕ};
 
-use crate::branch::Branch;
-use crate::collide::Collide;
-use crate::level::Level;
 use cow_cell::Stock;
+use cow_champ::{Branch, Collide, Level};
 use cow_item::{Item, Key};
 
 /// What is done with tries whose root is of any level type. `over_levels` runs it with seven branches over a collision
