@@ -1,4 +1,3 @@
-pub mod Apart
 pub mod DictCosts
 pub mod Dicts
 pub mod PairUnits

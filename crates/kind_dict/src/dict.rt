@@ -496,12 +496,10 @@ impl<T: Element<Q>, Q: Stock, V: Holds<DictValue<T, Q>> + Holds<SetValue<T, Q>>>
                 };
                 merge_refusal(&self.held, &other.held, *take)
             }
-            Statement::Within { .. } => {
-                let Some(_) = Holds::<SetValue<T, Q>>::as_kind(other) else {
-                    return Some(Refusal::WrongKind);
-                };
-                None
-            }
+            Statement::Within { .. } => match Holds::<SetValue<T, Q>>::as_kind(other) {
+                Some(_members) => None,
+                None => Some(Refusal::WrongKind),
+            },
             _ => Some(Refusal::WrongKind),
         }
     }

@@ -1,6 +1,6 @@
 use Rattle.std.proofs.Common.{length, arith}
 use Rattle.std.proofs.lemmas.Grind.{common_steps}
-use Rattle.cow_array.proofs.Costs.{copies-light}
+use Rattle.cow_row.proofs.Around.{copies-light}
 use Rattle.cow_elements.proofs.Units.{unit-of}
 use Rattle.kind_heap.proofs.heap.replace_max.Goals as goal
 
