@@ -12,6 +12,7 @@ use kind_array::{ArrayValue, SliceValue};
 use kind_deque::DequeValue;
 use kind_dict::DictValue;
 use kind_heap::HeapValue;
+use kind_odict::OrderedDictValue;
 use kind_oset::OrderedSetValue;
 use kind_set::SetValue;
 use std::alloc::Global;
@@ -25,6 +26,7 @@ pub enum Value<T: Element<Q>, Q: Stock> {
     Set(SetValue<T, Q>),
     Dict(DictValue<T, Q>),
     OSet(OrderedSetValue<T, Q>),
+    ODict(OrderedDictValue<T, Q>),
     Heap(HeapValue<T, Q>),
 }
 
@@ -38,6 +40,7 @@ macro_rules! each {
             Value::Set($it) => $call,
             Value::Dict($it) => $call,
             Value::OSet($it) => $call,
+            Value::ODict($it) => $call,
             Value::Heap($it) => $call,
         }
     };
@@ -53,6 +56,7 @@ macro_rules! alike {
             Value::Set($it) => Value::Set($call),
             Value::Dict($it) => Value::Dict($call),
             Value::OSet($it) => Value::OSet($call),
+            Value::ODict($it) => Value::ODict($call),
             Value::Heap($it) => Value::Heap($call),
         }
     };
@@ -96,31 +100,33 @@ holds!(DictValue, Dict);
 
 holds!(OrderedSetValue, OSet);
 
+holds!(OrderedDictValue, ODict);
+
 impl<T: Element<Q>, Q: Stock> Collection<Value<T, Q>, Q> for Value<T, Q> {
     ghost takes = { λ statement. true };
 
     fn count(&self) -> usize {
-        each!(self, it => Collection::count(it))
+        each!(self, it => Collection::<Value<T, Q>, Q>::count(it))
     }
 
     fn size(&self) -> usize {
-        each!(self, it => Collection::size(it))
+        each!(self, it => Collection::<Value<T, Q>, Q>::size(it))
     }
 
     fn stop(&self) -> usize {
-        each!(self, it => Collection::stop(it))
+        each!(self, it => Collection::<Value<T, Q>, Q>::stop(it))
     }
 
     fn copy(&mut self, h: &mut Holder<Q>) -> Value<T, Q> {
-        alike!(self, it => Collection::copy(it, h))
+        alike!(self, it => Collection::<Value<T, Q>, Q>::copy(it, h))
     }
 
     fn end(self, h: &mut Holder<Q>) {
-        each!(self, it => Collection::end(it, h))
+        each!(self, it => Collection::<Value<T, Q>, Q>::end(it, h))
     }
 
     fn put(&self, text: &mut Vec<u8>) -> Result<(), NoMemory> {
-        each!(self, it => Collection::put(it, text))
+        each!(self, it => Collection::<Value<T, Q>, Q>::put(it, text))
     }
 
     fn change(
@@ -133,7 +139,7 @@ impl<T: Element<Q>, Q: Stock> Collection<Value<T, Q>, Q> for Value<T, Q> {
         if let Statement::Rebase { .. } = statement {
             return rebase(self, alloc, h);
         }
-        each!(self, it => Collection::change(it, alloc, statement, text, h))
+        each!(self, it => Collection::<Value<T, Q>, Q>::change(it, alloc, statement, text, h))
     }
 
     fn change_by(
@@ -142,27 +148,27 @@ impl<T: Element<Q>, Q: Stock> Collection<Value<T, Q>, Q> for Value<T, Q> {
         other: &Value<T, Q>,
         h: &mut Holder<Q>,
     ) -> Result<Result<(), Refusal>, NoMemory> {
-        each!(self, it => Collection::change_by(it, statement, other, h))
+        each!(self, it => Collection::<Value<T, Q>, Q>::change_by(it, statement, other, h))
     }
 
     fn refusal_by(&self, statement: &Statement, other: &Value<T, Q>) -> Option<Refusal> {
-        each!(self, it => Collection::refusal_by(it, statement, other))
+        each!(self, it => Collection::<Value<T, Q>, Q>::refusal_by(it, statement, other))
     }
 
     fn parts(&self, statement: &Statement) -> bool {
-        each!(self, it => Collection::parts(it, statement))
+        each!(self, it => Collection::<Value<T, Q>, Q>::parts(it, statement))
     }
 
     fn parts_by(&self, statement: &Statement, other: &Value<T, Q>) -> bool {
-        each!(self, it => Collection::parts_by(it, statement, other))
+        each!(self, it => Collection::<Value<T, Q>, Q>::parts_by(it, statement, other))
     }
 
     fn cost(&self, statement: &Statement, alone: bool) -> usize {
-        each!(self, it => Collection::cost(it, statement, alone))
+        each!(self, it => Collection::<Value<T, Q>, Q>::cost(it, statement, alone))
     }
 
     fn both_cost(&self, alone: bool) -> usize {
-        each!(self, it => Collection::both_cost(it, alone))
+        each!(self, it => Collection::<Value<T, Q>, Q>::both_cost(it, alone))
     }
 
     fn tell(
@@ -170,7 +176,7 @@ impl<T: Element<Q>, Q: Stock> Collection<Value<T, Q>, Q> for Value<T, Q> {
         statement: &Statement,
         text: &mut Vec<u8>,
     ) -> Result<Result<(), Refusal>, NoMemory> {
-        each!(self, it => Collection::tell(it, statement, text))
+        each!(self, it => Collection::<Value<T, Q>, Q>::tell(it, statement, text))
     }
 
     fn tell_both(
@@ -179,15 +185,15 @@ impl<T: Element<Q>, Q: Stock> Collection<Value<T, Q>, Q> for Value<T, Q> {
         other: &Value<T, Q>,
         text: &mut Vec<u8>,
     ) -> Result<Result<(), Refusal>, NoMemory> {
-        each!(self, it => Collection::tell_both(it, statement, other, text))
+        each!(self, it => Collection::<Value<T, Q>, Q>::tell_both(it, statement, other, text))
     }
 
     fn slice(&mut self, i: i64, j: i64, h: &mut Holder<Q>) -> Result<Value<T, Q>, Refusal> {
-        each!(self, it => Collection::slice(it, i, j, h))
+        each!(self, it => Collection::<Value<T, Q>, Q>::slice(it, i, j, h))
     }
 
     fn slice_refusal(&self, i: i64, j: i64) -> Option<Refusal> {
-        each!(self, it => Collection::slice_refusal(it, i, j))
+        each!(self, it => Collection::<Value<T, Q>, Q>::slice_refusal(it, i, j))
     }
 }
 
@@ -211,6 +217,7 @@ impl<T: Element<Q>, Q: Stock> Values<Q> for Value<T, Q> {
             Kind::Set => made!(Set, SetValue, kind_set::make(alloc, atoms, h)),
             Kind::Dict => made!(Dict, DictValue, kind_dict::make(alloc, atoms, h)),
             Kind::OSet => made!(OSet, OrderedSetValue, kind_oset::make(alloc, atoms, h)),
+            Kind::ODict => made!(ODict, OrderedDictValue, kind_odict::make(alloc, atoms, h)),
             Kind::Heap => made!(Heap, HeapValue, kind_heap::make(alloc, atoms, h)),
             _ => unreachable!(),
         }
