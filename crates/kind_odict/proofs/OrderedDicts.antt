@@ -1,21 +1,23 @@
 -- What the statements on ordered dictionaries leave, and when they leave one the same.
 use Rattle.std.proofs.Common.{◌≡◌, ℕ, ℤ, ◌+◌, ◌-◌, ◌<◌, ◌≤◌, length, map, List, [], ◌∷◌, ◌++◌, Bool, true, false, not, ◌||◌, ◌&&◌, cond, remove, swap, reverse, slice_get, get_or, Option, Some, None, refl, sym, ap, ◌∙◌, subst, codes, arith}
-use Rattle.std.specs.Prelude.{is_some, option_map}
+use Rattle.std.specs.Prelude.{is_some, nat_lt, option_map}
 use Rattle.std.specs.Bool.{Decides}
 use Rattle.std.proofs.lemmas.Bool.{true≢false}
 use Rattle.std.proofs.lemmas.List.{length-map, length_push, get_or-reverse}
 use Rattle.std.proofs.lemmas.List.Edits.{length-remove}
 use Rattle.std.proofs.lemmas.Option.{slice_get-get_or, slice_get-map}
 use Rattle.cow_dict.proofs.Maps.{has-member, member-value, put-absent, put-here, put-keys, put-past, value-here, value-past}
+use Rattle.cow_dict.proofs.Sides.{length-side}
 use Rattle.cow_dict.specs.Dictionaries.{comes}
-use Rattle.cow_dict.specs.Storages.{keys, pair_of}
+use Rattle.cow_dict.specs.Storages.{keys, pair_of, side_by_side}
 use Rattle.cow_elements.proofs.Alike.{own-swap, swap-own}
 use Rattle.cow_elements.proofs.Parts.{told-of}
 use Rattle.cow_members.proofs.Ascents.{itself, same-is}
-use Rattle.cow_members.proofs.Listed.{Distinct, place-found}
+use Rattle.cow_members.proofs.Listed.{Distinct, distinct-by, place-found}
+use Rattle.cow_members.specs.Ascents.{Ascends}
 use Rattle.cow_model.proofs.Ascending.{on_side}
 use Rattle.cow_model.specs.Members as members
-use Rattle.cow_model.specs.Members.{member}
+use Rattle.cow_model.specs.Members.{ascending, member}
 use Rattle.cow_model.specs.Operation as operation
 use Rattle.cow_model.specs.Order.{same}
 use Rattle.cow_model.specs.Pairs.{last, place_in, put, value_in}
@@ -139,6 +141,25 @@ parts-swap told r i j ps m n d e f l k h s =
     (subst (λ o. tells_of told t (ODict ps) (operation.fitting (operation.at_place o (λ k. operation.silent (ODict (swap ps m k)))))) f
     (told-of told t (ODict ps) (ODict (swap ps m n)) [] (s ∙ ap not (swap-same r ps m n d l k h))))
 
+-- where a place isn't there
+pub none-first : (told : Bool) (i j : ℤ) (ps : List Pair) → None ≡ operation.index 0 (length ps) i → tells_of told (whole (operation.swap i j)) (ODict ps) (operation.fitting (operation.swap i j (ODict ps)))
+none-first told i j ps e =
+    subst (λ o. tells_of told (whole (operation.swap i j)) (ODict ps) (operation.fitting (operation.at_place o (λ k. operation.at_place (operation.index 0 (length ps) j) (λ m. operation.silent (ODict (swap ps k m))))))) e tt
+
+pub none-second : (told : Bool) (i j : ℤ) (ps : List Pair) → None ≡ operation.index 0 (length ps) j → tells_of told (whole (operation.swap i j)) (ODict ps) (operation.fitting (operation.swap i j (ODict ps)))
+none-second told i j ps e =
+    let t = whole (operation.swap i j) in
+    subst (λ o. tells_of told t (ODict ps) (operation.fitting (operation.at_place (operation.index 0 (length ps) i) (λ k. operation.at_place o (λ m. operation.silent (ODict (swap ps k m))))))) e
+    (elim (operation.index 0 (length ps) i) as (λ o. tells_of told t (ODict ps) (operation.fitting (operation.at_place o (λ k. operation.at_place None (λ m. operation.silent (ODict (swap ps k m)))))))
+    [ None ↦ tt | Some k ↦ tt ])
+
+-- the keys that are shown are those of the pairs
+pub shown-count : {K : Type 0} (plain : K → Literal) (xs : List K) (vs : List Literal) (ps : List Pair) → side_by_side (map plain xs) vs ≡ ps → length xs ≡ length ps
+shown-count plain xs vs ps e = sym (length-map xs plain) ∙ sym (length-side (map plain xs) vs) ∙ ap length e
+
+pub shown-apart : (ps : List Pair) → Ascends (ascending (keys ps)) → Distinct (keys ps)
+shown-apart ps s = distinct-by (keys ps) s
+
 -- the first pair is the last one only where there is no other
 turned-short : (ps : List Pair) → length ps ≤ 1 → ps ≡ reverse ps
 turned-short [] l = refl
@@ -154,9 +175,11 @@ short-turned (p ∷ ps) d e =
     let same : 0 ≡ n - 1 - 0 = one-place all 0 (n - 1 - 0) p d (omega arith) (omega arith) first in
     omega (arith, same)
 
-pub parts-reverse : (told r : Bool) (ps : List Pair) → Distinct (keys ps) → Decides r (length ps ≤ 1) → told ≡ not r → tells_of told (whole operation.reversed) (ODict ps) (operation.fitting (operation.reversed (ODict ps)))
-parts-reverse told r ps d h s =
-    told-of told (whole operation.reversed) (ODict ps) (ODict (reverse ps)) [] (s ∙ ap not (tells-pairs r ps (reverse ps) (
-      (λ t. turned-short ps (h.0 t)),
-      (λ e. h.1 (short-turned ps d e)),
-    )))
+pub parts-reverse : (n : ℕ) (ps : List Pair) → n ≡ length ps → Distinct (keys ps) → tells_of (nat_lt 1 n) (whole operation.reversed) (ODict ps) (operation.fitting (operation.reversed (ODict ps)))
+parts-reverse n ps e d = told-of (nat_lt 1 n) (whole operation.reversed) (ODict ps) (ODict (reverse ps)) [] (on_side (nat_lt 1 n)
+    (λ t.
+    let long : 1 < n = grind (arith, t) in
+    t ∙ ap not (tells-pairs false ps (reverse ps) ((λ s. absurd (true≢false (sym s))), (λ s. absurd (omega (arith, e, long, short-turned ps d s))))))
+    (λ f.
+    let short : n ≤ 1 = grind (arith, f) in
+    f ∙ ap not (tells-pairs true ps (reverse ps) ((λ s. turned-short ps (omega (arith, e, short))), (λ s. refl)))))
