@@ -265,10 +265,13 @@ fn swap_parts<T: Element<Q>, Q: Stock>(d: &OrderedDictionary<T, T, Q>, i: i64, j
     ensures { TellsParts result (whole (spec.swap i j)) (plain.ODict d.now.value) }
 {
     let (keys, _) = d.as_slices();
-    match (index(0, keys.len(), i), index(0, keys.len(), j)) {
-        (Some(first), Some(second)) => first != second,
-        _ => false,
-    }
+    let Some(first) = index(0, keys.len(), i) else {
+        return false;
+    };
+    let Some(second) = index(0, keys.len(), j) else {
+        return false;
+    };
+    first != second
 }
 
 /// `reverse N`
