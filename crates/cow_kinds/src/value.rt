@@ -7,7 +7,7 @@ use crate::rebase::rebase;
 use cow_cell::{Holder, Stock};
 use cow_elements::Element;
 use cow_model::{Kind, Literal, NoMemory, Refusal, Statement};
-use cow_value::{Collection, Holds, Shown, Values};
+use cow_value::{Collection, Holds, Meets, Shown, Values};
 use kind_array::{ArrayValue, SliceValue};
 use kind_deque::DequeValue;
 use kind_dict::DictValue;
@@ -62,7 +62,7 @@ macro_rules! alike {
     };
 }
 
-impl<T: Element<Q>, Q: Stock> Shown<Value<T, Q>> for Value<T, Q> {
+impl<T: Element<Q>, Q: Stock> Shown for Value<T, Q> {
     ghost seen = { values.seen };
 
     ghost counted = { T.is_counted };
@@ -102,31 +102,31 @@ holds!(OrderedSetValue, OSet);
 
 holds!(OrderedDictValue, ODict);
 
-impl<T: Element<Q>, Q: Stock> Collection<Value<T, Q>, Q> for Value<T, Q> {
+impl<T: Element<Q>, Q: Stock> Collection<Q> for Value<T, Q> {
     ghost takes = { λ statement. true };
 
     fn count(&self) -> usize {
-        each!(self, it => Collection::<Value<T, Q>, Q>::count(it))
+        each!(self, it => Collection::<Q>::count(it))
     }
 
     fn size(&self) -> usize {
-        each!(self, it => Collection::<Value<T, Q>, Q>::size(it))
+        each!(self, it => Collection::<Q>::size(it))
     }
 
     fn stop(&self) -> usize {
-        each!(self, it => Collection::<Value<T, Q>, Q>::stop(it))
+        each!(self, it => Collection::<Q>::stop(it))
     }
 
     fn copy(&mut self, h: &mut Holder<Q>) -> Value<T, Q> {
-        alike!(self, it => Collection::<Value<T, Q>, Q>::copy(it, h))
+        alike!(self, it => Collection::<Q>::copy(it, h))
     }
 
     fn end(self, h: &mut Holder<Q>) {
-        each!(self, it => Collection::<Value<T, Q>, Q>::end(it, h))
+        each!(self, it => Collection::<Q>::end(it, h))
     }
 
     fn put(&self, text: &mut Vec<u8>) -> Result<(), NoMemory> {
-        each!(self, it => Collection::<Value<T, Q>, Q>::put(it, text))
+        each!(self, it => Collection::<Q>::put(it, text))
     }
 
     fn change(
@@ -139,36 +139,19 @@ impl<T: Element<Q>, Q: Stock> Collection<Value<T, Q>, Q> for Value<T, Q> {
         if let Statement::Rebase { .. } = statement {
             return rebase(self, alloc, h);
         }
-        each!(self, it => Collection::<Value<T, Q>, Q>::change(it, alloc, statement, text, h))
-    }
-
-    fn change_by(
-        &mut self,
-        statement: &Statement,
-        other: &Value<T, Q>,
-        h: &mut Holder<Q>,
-    ) -> Result<Result<(), Refusal>, NoMemory> {
-        each!(self, it => Collection::<Value<T, Q>, Q>::change_by(it, statement, other, h))
-    }
-
-    fn refusal_by(&self, statement: &Statement, other: &Value<T, Q>) -> Option<Refusal> {
-        each!(self, it => Collection::<Value<T, Q>, Q>::refusal_by(it, statement, other))
+        each!(self, it => Collection::<Q>::change(it, alloc, statement, text, h))
     }
 
     fn parts(&self, statement: &Statement) -> bool {
-        each!(self, it => Collection::<Value<T, Q>, Q>::parts(it, statement))
-    }
-
-    fn parts_by(&self, statement: &Statement, other: &Value<T, Q>) -> bool {
-        each!(self, it => Collection::<Value<T, Q>, Q>::parts_by(it, statement, other))
+        each!(self, it => Collection::<Q>::parts(it, statement))
     }
 
     fn cost(&self, statement: &Statement, alone: bool) -> usize {
-        each!(self, it => Collection::<Value<T, Q>, Q>::cost(it, statement, alone))
+        each!(self, it => Collection::<Q>::cost(it, statement, alone))
     }
 
     fn both_cost(&self, alone: bool) -> usize {
-        each!(self, it => Collection::<Value<T, Q>, Q>::both_cost(it, alone))
+        each!(self, it => Collection::<Q>::both_cost(it, alone))
     }
 
     fn tell(
@@ -176,7 +159,30 @@ impl<T: Element<Q>, Q: Stock> Collection<Value<T, Q>, Q> for Value<T, Q> {
         statement: &Statement,
         text: &mut Vec<u8>,
     ) -> Result<Result<(), Refusal>, NoMemory> {
-        each!(self, it => Collection::<Value<T, Q>, Q>::tell(it, statement, text))
+        each!(self, it => Collection::<Q>::tell(it, statement, text))
+    }
+
+    fn slice_refusal(&self, i: i64, j: i64) -> Option<Refusal> {
+        each!(self, it => Collection::<Q>::slice_refusal(it, i, j))
+    }
+}
+
+impl<T: Element<Q>, Q: Stock> Meets<Value<T, Q>, Q> for Value<T, Q> {
+    fn change_by(
+        &mut self,
+        statement: &Statement,
+        other: &Value<T, Q>,
+        h: &mut Holder<Q>,
+    ) -> Result<Result<(), Refusal>, NoMemory> {
+        each!(self, it => Meets::<Value<T, Q>, Q>::change_by(it, statement, other, h))
+    }
+
+    fn refusal_by(&self, statement: &Statement, other: &Value<T, Q>) -> Option<Refusal> {
+        each!(self, it => Meets::<Value<T, Q>, Q>::refusal_by(it, statement, other))
+    }
+
+    fn parts_by(&self, statement: &Statement, other: &Value<T, Q>) -> bool {
+        each!(self, it => Meets::<Value<T, Q>, Q>::parts_by(it, statement, other))
     }
 
     fn tell_both(
@@ -185,15 +191,11 @@ impl<T: Element<Q>, Q: Stock> Collection<Value<T, Q>, Q> for Value<T, Q> {
         other: &Value<T, Q>,
         text: &mut Vec<u8>,
     ) -> Result<Result<(), Refusal>, NoMemory> {
-        each!(self, it => Collection::<Value<T, Q>, Q>::tell_both(it, statement, other, text))
+        each!(self, it => Meets::<Value<T, Q>, Q>::tell_both(it, statement, other, text))
     }
 
     fn slice(&mut self, i: i64, j: i64, h: &mut Holder<Q>) -> Result<Value<T, Q>, Refusal> {
-        each!(self, it => Collection::<Value<T, Q>, Q>::slice(it, i, j, h))
-    }
-
-    fn slice_refusal(&self, i: i64, j: i64) -> Option<Refusal> {
-        each!(self, it => Collection::<Value<T, Q>, Q>::slice_refusal(it, i, j))
+        each!(self, it => Meets::<Value<T, Q>, Q>::slice(it, i, j, h))
     }
 }
 

@@ -24,8 +24,8 @@ use cow_cell::{Holder, Stock};
 use cow_model::{Kind, Literal, NoMemory, Refusal, Statement};
 use std::alloc::Global;
 
-/// What contracts see of a value. `V` is the type of the values of all kinds.
-pub trait Shown<V>: Sized + Drop {
+/// What contracts see of a value.
+pub trait Shown: Sized + Drop {
     /// Its plain value, whether it is known to be alone, and its hidden units.
     ghost seen: { Self → Seen };
 
@@ -37,7 +37,7 @@ pub trait Shown<V>: Sized + Drop {
 }
 
 /// The type of the values of all kinds, as the kind `K` sees it.
-pub trait Holds<K: Shown<Self>>: Shown<Self> {
+pub trait Holds<K: Shown>: Shown {
     /// The value, where it is of the kind.
     fn as_kind(&self) -> Option<&K>
         ensures some { IfSome result (λ k. K.seen k.now ≡ Self.seen self.now) }
@@ -48,9 +48,8 @@ pub trait Holds<K: Shown<Self>>: Shown<Self> {
         ensures { Self.seen result ≡ K.seen kind };
 }
 
-/// A collection of one kind, or the type `V` of all kinds: what one statement does to a value of it.
-/// The other value that a statement names is of type `V`, and so is a slice.
-pub trait Collection<V: Shown<V>, Q: Stock>: Shown<V> {
+/// A collection of one kind, or the type of all kinds: what a statement on one value does to it.
+pub trait Collection<Q: Stock>: Shown {
     /// The statements that `change` does: all, or all but one that gives a value of another kind.
     ghost takes: { Layer → Bool };
 
@@ -106,6 +105,37 @@ pub trait Collection<V: Shown<V>, Q: Stock>: Shown<V> {
             (turn_of (out-Statement statement.now))
             (Self.seen self.old) (Self.seen self.new) h.old h.new result };
 
+    /// Whether a statement that isn't refused leaves the value alone where it wasn't. No memory.
+    fn parts(&self, statement: &Statement) -> bool
+        ensures { TellsParts result (turn_of (out-Statement statement.now))
+            (Self.seen self.now).value };
+
+    /// The most copies that the sharing rule allows a statement beside its literals, by the flag.
+    fn cost(&self, statement: &Statement, alone: bool) -> usize
+        ensures { result
+            ≡ (turn_of (out-Statement statement.now)).cost alone (Self.seen self.now).value };
+
+    /// The same of a change by another value, beside that value's elements.
+    fn both_cost(&self, alone: bool) -> usize
+        ensures { result ≡ both_cost_of alone (Self.seen self.now).value };
+
+    /// Appends the line of a statement that reads the value.
+    fn tell(
+        &self,
+        statement: &Statement,
+        text: &mut Vec<u8>,
+    ) -> Result<Result<(), Refusal>, NoMemory>
+        ensures { Tells (query_of (out-Statement statement.now) (Self.seen self.now).value)
+            text.old.items text.new.items result };
+
+    /// Why `slice` refuses, told without a change.
+    fn slice_refusal(&self, i: i64, j: i64) -> Option<Refusal>
+        ensures { result ≡ refusal_in (spec.slice i j (Self.seen self.now).value) };
+}
+
+/// A collection beside values of any kind, whose type is `V`: what a statement on two values does, and
+/// slices, which are of another kind.
+pub trait Meets<V: Shown, Q: Stock>: Collection<Q> {
     /// Does a statement that changes one value by another; none of them prints.
     fn change_by(
         &mut self,
@@ -130,34 +160,11 @@ pub trait Collection<V: Shown<V>, Q: Stock>: Shown<V> {
             ((turn_by_of (out-Statement statement.now) (V.seen other.now).value).run
             (Self.seen self.now).value) };
 
-    /// Whether a statement that isn't refused leaves the value alone where it wasn't. No memory.
-    fn parts(&self, statement: &Statement) -> bool
-        ensures { TellsParts result (turn_of (out-Statement statement.now))
-            (Self.seen self.now).value };
-
-    /// The same of one that changes it by another value.
+    /// Whether a change by another value that isn't refused leaves it alone where it wasn't. No memory.
     fn parts_by(&self, statement: &Statement, other: &V) -> bool
         ensures { TellsParts result
             (turn_by_of (out-Statement statement.now) (V.seen other.now).value)
             (Self.seen self.now).value };
-
-    /// The most copies that the sharing rule allows a statement beside its literals, by the flag.
-    fn cost(&self, statement: &Statement, alone: bool) -> usize
-        ensures { result
-            ≡ (turn_of (out-Statement statement.now)).cost alone (Self.seen self.now).value };
-
-    /// The same of a change by another value, beside the other's elements.
-    fn both_cost(&self, alone: bool) -> usize
-        ensures { result ≡ both_cost_of alone (Self.seen self.now).value };
-
-    /// Appends the line of a statement that reads the value.
-    fn tell(
-        &self,
-        statement: &Statement,
-        text: &mut Vec<u8>,
-    ) -> Result<Result<(), Refusal>, NoMemory>
-        ensures { Tells (query_of (out-Statement statement.now) (Self.seen self.now).value)
-            text.old.items text.new.items result };
 
     /// Appends the line of a statement that reads two values.
     fn tell_both(
@@ -184,14 +191,10 @@ pub trait Collection<V: Shown<V>, Q: Stock>: Shown<V> {
         ensures spent { OnOk result (h.new ≡ less 1 h.old) }
         ensures refused { OnErr result
             ((Self.seen self.new ≡ Self.seen self.old) × (h.new ≡ h.old)) };
-
-    /// Why `slice` refuses, told without a change.
-    fn slice_refusal(&self, i: i64, j: i64) -> Option<Refusal>
-        ensures { result ≡ refusal_in (spec.slice i j (Self.seen self.now).value) };
 }
 
 /// The type of the values of all kinds that are built.
-pub trait Values<Q: Stock>: Collection<Self, Q> {
+pub trait Values<Q: Stock>: Meets<Self, Q> {
     /// `let N = KIND A*`. Linear in the literals, but for what a kind's own order takes.
     fn make(
         alloc: Global,

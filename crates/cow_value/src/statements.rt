@@ -32,7 +32,7 @@ pub fn literals(statement: &Statement) -> usize
 }
 
 /// How many atoms of the other value a statement adds at most.
-pub fn added<V: Collection<V, Q>, Q: Stock>(statement: &Statement, other: &V) -> usize
+pub fn added<V: Collection<Q>, Q: Stock>(statement: &Statement, other: &V) -> usize
     ensures { result ≡ added_of (out-Statement statement.now) (V.seen other.now).value }
 {
     match statement {

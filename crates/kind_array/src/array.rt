@@ -23,7 +23,7 @@ use cow_elements::reading::{end_all, read_all};
 use cow_elements::{Element, Listed, keeps, put_list};
 use cow_item::Item;
 use cow_model::{Literal, NoMemory, Refusal, Side, Statement};
-use cow_value::{Collection, Holds, Shown};
+use cow_value::{Collection, Holds, Meets, Shown};
 use std::alloc::Global;
 
 /// `append N A`
@@ -356,7 +356,7 @@ pub struct ArrayValue<T: Element<Q>, Q: Stock> {
     pub held: Array<T, Q>,
 }
 
-impl<T: Element<Q>, Q: Stock, V> Shown<V> for ArrayValue<T, Q> {
+impl<T: Element<Q>, Q: Stock> Shown for ArrayValue<T, Q> {
     ghost seen = { λ v. array v.held };
 
     ghost counted = { T.is_counted };
@@ -364,8 +364,7 @@ impl<T: Element<Q>, Q: Stock, V> Shown<V> for ArrayValue<T, Q> {
     ghost is_kind = { is_array };
 }
 
-impl<T: Element<Q>, Q: Stock, V: Holds<ArrayValue<T, Q>> + Holds<SliceValue<T, Q>>> Collection<V, Q>
-    for ArrayValue<T, Q> {
+impl<T: Element<Q>, Q: Stock> Collection<Q> for ArrayValue<T, Q> {
     ghost takes = { keeps_kind };
 
     fn count(&self) -> usize {
@@ -419,31 +418,6 @@ impl<T: Element<Q>, Q: Stock, V: Holds<ArrayValue<T, Q>> + Holds<SliceValue<T, Q
         }
     }
 
-    fn change_by(
-        &mut self,
-        statement: &Statement,
-        other: &V,
-        h: &mut Holder<Q>,
-    ) -> Result<Result<(), Refusal>, NoMemory> {
-        let Statement::Extend { .. } = statement else {
-            return Ok(Err(Refusal::WrongKind));
-        };
-        let Some(other) = Holds::<ArrayValue<T, Q>>::as_kind(other) else {
-            return Ok(Err(Refusal::WrongKind));
-        };
-        extend(&mut self.held, &other.held, h)
-    }
-
-    fn refusal_by(&self, statement: &Statement, other: &V) -> Option<Refusal> {
-        let Statement::Extend { .. } = statement else {
-            return Some(Refusal::WrongKind);
-        };
-        let Some(other) = Holds::<ArrayValue<T, Q>>::as_kind(other) else {
-            return Some(Refusal::WrongKind);
-        };
-        extend_refusal(&self.held, &other.held)
-    }
-
     fn parts(&self, statement: &Statement) -> bool {
         match statement {
             Statement::Set { i, atom, .. } => !keeps::set(self, 0, *i, atom),
@@ -456,16 +430,6 @@ impl<T: Element<Q>, Q: Stock, V: Holds<ArrayValue<T, Q>> + Holds<SliceValue<T, Q
             Statement::Clear { .. } | Statement::Pop { .. } => self.held.count() != 0,
             _ => true,
         }
-    }
-
-    fn parts_by(&self, statement: &Statement, other: &V) -> bool {
-        let Statement::Extend { .. } = statement else {
-            return true;
-        };
-        let Some(other) = Holds::<ArrayValue<T, Q>>::as_kind(other) else {
-            return true;
-        };
-        other.held.count() != 0
     }
 
     fn cost(&self, _statement: &Statement, alone: bool) -> usize {
@@ -491,6 +455,51 @@ impl<T: Element<Q>, Q: Stock, V: Holds<ArrayValue<T, Q>> + Holds<SliceValue<T, Q
         }
     }
 
+    fn slice_refusal(&self, i: i64, j: i64) -> Option<Refusal> {
+        match stretch(self.held.count(), i, j) {
+            Some(_) => None,
+            None => Some(Refusal::OutOfRange),
+        }
+    }
+}
+
+impl<T: Element<Q>, Q: Stock, V: Holds<ArrayValue<T, Q>> + Holds<SliceValue<T, Q>>> Meets<V, Q>
+    for ArrayValue<T, Q> {
+    fn change_by(
+        &mut self,
+        statement: &Statement,
+        other: &V,
+        h: &mut Holder<Q>,
+    ) -> Result<Result<(), Refusal>, NoMemory> {
+        let Statement::Extend { .. } = statement else {
+            return Ok(Err(Refusal::WrongKind));
+        };
+        let Some(other) = Holds::<ArrayValue<T, Q>>::as_kind(other) else {
+            return Ok(Err(Refusal::WrongKind));
+        };
+        extend(&mut self.held, &other.held, h)
+    }
+
+    fn refusal_by(&self, statement: &Statement, other: &V) -> Option<Refusal> {
+        let Statement::Extend { .. } = statement else {
+            return Some(Refusal::WrongKind);
+        };
+        let Some(other) = Holds::<ArrayValue<T, Q>>::as_kind(other) else {
+            return Some(Refusal::WrongKind);
+        };
+        extend_refusal(&self.held, &other.held)
+    }
+
+    fn parts_by(&self, statement: &Statement, other: &V) -> bool {
+        let Statement::Extend { .. } = statement else {
+            return true;
+        };
+        let Some(other) = Holds::<ArrayValue<T, Q>>::as_kind(other) else {
+            return true;
+        };
+        other.held.count() != 0
+    }
+
     fn tell_both(
         &self,
         statement: &Statement,
@@ -513,13 +522,6 @@ impl<T: Element<Q>, Q: Stock, V: Holds<ArrayValue<T, Q>> + Holds<SliceValue<T, Q
         };
         let held = self.held.slice(from, to, h);
         Ok(V::of(SliceValue { held }))
-    }
-
-    fn slice_refusal(&self, i: i64, j: i64) -> Option<Refusal> {
-        match stretch(self.held.count(), i, j) {
-            Some(_) => None,
-            None => Some(Refusal::OutOfRange),
-        }
     }
 }
 

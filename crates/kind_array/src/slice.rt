@@ -19,7 +19,7 @@ use cow_elements::queries::get;
 use cow_elements::{Element, Listed, keeps, put_list_from};
 use cow_item::Item;
 use cow_model::{Literal, NoMemory, Refusal, Side, Statement};
-use cow_value::{Collection, Holds, Shown};
+use cow_value::{Collection, Holds, Meets, Shown};
 use std::alloc::Global;
 
 /// `append N A`
@@ -121,7 +121,7 @@ pub struct SliceValue<T: Element<Q>, Q: Stock> {
     pub held: ArraySlice<T, Q>,
 }
 
-impl<T: Element<Q>, Q: Stock, V> Shown<V> for SliceValue<T, Q> {
+impl<T: Element<Q>, Q: Stock> Shown for SliceValue<T, Q> {
     ghost seen = { λ v. slice v.held };
 
     ghost counted = { T.is_counted };
@@ -129,7 +129,7 @@ impl<T: Element<Q>, Q: Stock, V> Shown<V> for SliceValue<T, Q> {
     ghost is_kind = { is_slice };
 }
 
-impl<T: Element<Q>, Q: Stock, V: Holds<SliceValue<T, Q>>> Collection<V, Q> for SliceValue<T, Q> {
+impl<T: Element<Q>, Q: Stock> Collection<Q> for SliceValue<T, Q> {
     ghost takes = { keeps_kind };
 
     fn count(&self) -> usize {
@@ -174,29 +174,12 @@ impl<T: Element<Q>, Q: Stock, V: Holds<SliceValue<T, Q>>> Collection<V, Q> for S
         }
     }
 
-    fn change_by(
-        &mut self,
-        _statement: &Statement,
-        _other: &V,
-        _h: &mut Holder<Q>,
-    ) -> Result<Result<(), Refusal>, NoMemory> {
-        Ok(Err(Refusal::WrongKind))
-    }
-
-    fn refusal_by(&self, _statement: &Statement, _other: &V) -> Option<Refusal> {
-        Some(Refusal::WrongKind)
-    }
-
     fn parts(&self, statement: &Statement) -> bool {
         match statement {
             Statement::Set { i, atom, .. } => !keeps::set(self, self.held.start(), *i, atom),
             Statement::Pop { .. } => false,
             _ => true,
         }
-    }
-
-    fn parts_by(&self, _statement: &Statement, _other: &V) -> bool {
-        true
     }
 
     fn cost(&self, statement: &Statement, alone: bool) -> usize {
@@ -229,6 +212,29 @@ impl<T: Element<Q>, Q: Stock, V: Holds<SliceValue<T, Q>>> Collection<V, Q> for S
         }
     }
 
+    fn slice_refusal(&self, _i: i64, _j: i64) -> Option<Refusal> {
+        Some(Refusal::WrongKind)
+    }
+}
+
+impl<T: Element<Q>, Q: Stock, V: Holds<SliceValue<T, Q>>> Meets<V, Q> for SliceValue<T, Q> {
+    fn change_by(
+        &mut self,
+        _statement: &Statement,
+        _other: &V,
+        _h: &mut Holder<Q>,
+    ) -> Result<Result<(), Refusal>, NoMemory> {
+        Ok(Err(Refusal::WrongKind))
+    }
+
+    fn refusal_by(&self, _statement: &Statement, _other: &V) -> Option<Refusal> {
+        Some(Refusal::WrongKind)
+    }
+
+    fn parts_by(&self, _statement: &Statement, _other: &V) -> bool {
+        true
+    }
+
     fn tell_both(
         &self,
         statement: &Statement,
@@ -247,10 +253,6 @@ impl<T: Element<Q>, Q: Stock, V: Holds<SliceValue<T, Q>>> Collection<V, Q> for S
 
     fn slice(&mut self, _i: i64, _j: i64, _h: &mut Holder<Q>) -> Result<V, Refusal> {
         Err(Refusal::WrongKind)
-    }
-
-    fn slice_refusal(&self, _i: i64, _j: i64) -> Option<Refusal> {
-        Some(Refusal::WrongKind)
     }
 }
 

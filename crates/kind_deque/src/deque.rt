@@ -22,7 +22,7 @@ use cow_elements::reading::{end_all, read_all};
 use cow_elements::{Element, Listed, keeps, put_list};
 use cow_item::Item;
 use cow_model::{Literal, NoMemory, Refusal, Side, Statement};
-use cow_value::{Collection, Holds, Shown};
+use cow_value::{Collection, Holds, Meets, Shown};
 use std::alloc::Global;
 
 /// `append N A`
@@ -326,7 +326,7 @@ pub struct DequeValue<T: Element<Q>, Q: Stock> {
     pub held: Deque<T, Q>,
 }
 
-impl<T: Element<Q>, Q: Stock, V> Shown<V> for DequeValue<T, Q> {
+impl<T: Element<Q>, Q: Stock> Shown for DequeValue<T, Q> {
     ghost seen = { λ v. deque v.held };
 
     ghost counted = { T.is_counted };
@@ -334,7 +334,7 @@ impl<T: Element<Q>, Q: Stock, V> Shown<V> for DequeValue<T, Q> {
     ghost is_kind = { is_deque };
 }
 
-impl<T: Element<Q>, Q: Stock, V: Holds<DequeValue<T, Q>>> Collection<V, Q> for DequeValue<T, Q> {
+impl<T: Element<Q>, Q: Stock> Collection<Q> for DequeValue<T, Q> {
     ghost takes = { keeps_kind };
 
     fn count(&self) -> usize {
@@ -384,19 +384,6 @@ impl<T: Element<Q>, Q: Stock, V: Holds<DequeValue<T, Q>>> Collection<V, Q> for D
         }
     }
 
-    fn change_by(
-        &mut self,
-        _statement: &Statement,
-        _other: &V,
-        _h: &mut Holder<Q>,
-    ) -> Result<Result<(), Refusal>, NoMemory> {
-        Ok(Err(Refusal::WrongKind))
-    }
-
-    fn refusal_by(&self, _statement: &Statement, _other: &V) -> Option<Refusal> {
-        Some(Refusal::WrongKind)
-    }
-
     fn parts(&self, statement: &Statement) -> bool {
         match statement {
             Statement::Set { i, atom, .. } => !keeps::set(self, 0, *i, atom),
@@ -405,10 +392,6 @@ impl<T: Element<Q>, Q: Stock, V: Holds<DequeValue<T, Q>>> Collection<V, Q> for D
             Statement::Pop { .. } => self.held.count() != 0,
             _ => true,
         }
-    }
-
-    fn parts_by(&self, _statement: &Statement, _other: &V) -> bool {
-        true
     }
 
     fn cost(&self, _statement: &Statement, alone: bool) -> usize {
@@ -434,6 +417,29 @@ impl<T: Element<Q>, Q: Stock, V: Holds<DequeValue<T, Q>>> Collection<V, Q> for D
         }
     }
 
+    fn slice_refusal(&self, _i: i64, _j: i64) -> Option<Refusal> {
+        Some(Refusal::WrongKind)
+    }
+}
+
+impl<T: Element<Q>, Q: Stock, V: Holds<DequeValue<T, Q>>> Meets<V, Q> for DequeValue<T, Q> {
+    fn change_by(
+        &mut self,
+        _statement: &Statement,
+        _other: &V,
+        _h: &mut Holder<Q>,
+    ) -> Result<Result<(), Refusal>, NoMemory> {
+        Ok(Err(Refusal::WrongKind))
+    }
+
+    fn refusal_by(&self, _statement: &Statement, _other: &V) -> Option<Refusal> {
+        Some(Refusal::WrongKind)
+    }
+
+    fn parts_by(&self, _statement: &Statement, _other: &V) -> bool {
+        true
+    }
+
     fn tell_both(
         &self,
         statement: &Statement,
@@ -452,10 +458,6 @@ impl<T: Element<Q>, Q: Stock, V: Holds<DequeValue<T, Q>>> Collection<V, Q> for D
 
     fn slice(&mut self, _i: i64, _j: i64, _h: &mut Holder<Q>) -> Result<V, Refusal> {
         Err(Refusal::WrongKind)
-    }
-
-    fn slice_refusal(&self, _i: i64, _j: i64) -> Option<Refusal> {
-        Some(Refusal::WrongKind)
     }
 }
 

@@ -35,7 +35,7 @@ use cow_item::Item;
 use cow_model::{Literal, NoMemory, Refusal, Statement};
 use cow_print::whole_or_none;
 use cow_set::Set;
-use cow_value::{Collection, Holds, Shown};
+use cow_value::{Collection, Holds, Meets, Shown};
 use kind_set::SetValue;
 use std::alloc::Global;
 
@@ -412,7 +412,7 @@ pub struct DictValue<T: Element<Q>, Q: Stock> {
     pub held: Dictionary<T, T, Q>,
 }
 
-impl<T: Element<Q>, Q: Stock, V> Shown<V> for DictValue<T, Q> {
+impl<T: Element<Q>, Q: Stock> Shown for DictValue<T, Q> {
     ghost seen = { λ v. dict v.held };
 
     ghost counted = { T.is_counted };
@@ -420,8 +420,7 @@ impl<T: Element<Q>, Q: Stock, V> Shown<V> for DictValue<T, Q> {
     ghost is_kind = { is_dict };
 }
 
-impl<T: Element<Q>, Q: Stock, V: Holds<DictValue<T, Q>> + Holds<SetValue<T, Q>>> Collection<V, Q>
-    for DictValue<T, Q> {
+impl<T: Element<Q>, Q: Stock> Collection<Q> for DictValue<T, Q> {
     ghost takes = { keeps_kind };
 
     fn count(&self) -> usize {
@@ -465,6 +464,45 @@ impl<T: Element<Q>, Q: Stock, V: Holds<DictValue<T, Q>> + Holds<SetValue<T, Q>>>
         }
     }
 
+    fn parts(&self, statement: &Statement) -> bool {
+        match statement {
+            Statement::Put { key, value, .. } => put_parts(&self.held, key, value),
+            Statement::Remove { atom, .. } => remove_parts(&self.held, atom),
+            _ => true,
+        }
+    }
+
+    fn cost(&self, _statement: &Statement, alone: bool) -> usize {
+        if alone { 0 } else { 2 * self.held.count() }
+    }
+
+    fn both_cost(&self, alone: bool) -> usize {
+        if alone { 0 } else { 2 * self.held.count() }
+    }
+
+    fn tell(
+        &self,
+        statement: &Statement,
+        text: &mut Vec<u8>,
+    ) -> Result<Result<(), Refusal>, NoMemory> {
+        match statement {
+            Statement::Count { .. } => put_number(self.held.count(), text)?,
+            Statement::Get { atom, .. } => put_value(&self.held, atom, text)?,
+            Statement::Has { atom, .. } => {
+                put_truth(self.held.contains_key(&Sought::by(atom)), text)?;
+            }
+            _ => return Ok(Err(Refusal::WrongKind)),
+        }
+        Ok(Ok(()))
+    }
+
+    fn slice_refusal(&self, _i: i64, _j: i64) -> Option<Refusal> {
+        Some(Refusal::WrongKind)
+    }
+}
+
+impl<T: Element<Q>, Q: Stock, V: Holds<DictValue<T, Q>> + Holds<SetValue<T, Q>>> Meets<V, Q>
+    for DictValue<T, Q> {
     fn change_by(
         &mut self,
         statement: &Statement,
@@ -504,14 +542,6 @@ impl<T: Element<Q>, Q: Stock, V: Holds<DictValue<T, Q>> + Holds<SetValue<T, Q>>>
         }
     }
 
-    fn parts(&self, statement: &Statement) -> bool {
-        match statement {
-            Statement::Put { key, value, .. } => put_parts(&self.held, key, value),
-            Statement::Remove { atom, .. } => remove_parts(&self.held, atom),
-            _ => true,
-        }
-    }
-
     fn parts_by(&self, statement: &Statement, other: &V) -> bool {
         match statement {
             Statement::Merge { take, .. } => {
@@ -534,30 +564,6 @@ impl<T: Element<Q>, Q: Stock, V: Holds<DictValue<T, Q>> + Holds<SetValue<T, Q>>>
         }
     }
 
-    fn cost(&self, _statement: &Statement, alone: bool) -> usize {
-        if alone { 0 } else { 2 * self.held.count() }
-    }
-
-    fn both_cost(&self, alone: bool) -> usize {
-        if alone { 0 } else { 2 * self.held.count() }
-    }
-
-    fn tell(
-        &self,
-        statement: &Statement,
-        text: &mut Vec<u8>,
-    ) -> Result<Result<(), Refusal>, NoMemory> {
-        match statement {
-            Statement::Count { .. } => put_number(self.held.count(), text)?,
-            Statement::Get { atom, .. } => put_value(&self.held, atom, text)?,
-            Statement::Has { atom, .. } => {
-                put_truth(self.held.contains_key(&Sought::by(atom)), text)?;
-            }
-            _ => return Ok(Err(Refusal::WrongKind)),
-        }
-        Ok(Ok(()))
-    }
-
     fn tell_both(
         &self,
         statement: &Statement,
@@ -576,9 +582,5 @@ impl<T: Element<Q>, Q: Stock, V: Holds<DictValue<T, Q>> + Holds<SetValue<T, Q>>>
 
     fn slice(&mut self, _i: i64, _j: i64, _h: &mut Holder<Q>) -> Result<V, Refusal> {
         Err(Refusal::WrongKind)
-    }
-
-    fn slice_refusal(&self, _i: i64, _j: i64) -> Option<Refusal> {
-        Some(Refusal::WrongKind)
     }
 }

@@ -22,7 +22,7 @@ use cow_elements::{Element, put_list};
 use cow_heap::Heap;
 use cow_item::Item;
 use cow_model::{Literal, NoMemory, Refusal, Side, Statement};
-use cow_value::{Collection, Shown};
+use cow_value::{Collection, Meets, Shown};
 use std::alloc::Global;
 
 /// `insert N A`
@@ -245,7 +245,7 @@ pub struct HeapValue<T: Element<Q>, Q: Stock> {
     pub held: Heap<T, Q>,
 }
 
-impl<T: Element<Q>, Q: Stock, V> Shown<V> for HeapValue<T, Q> {
+impl<T: Element<Q>, Q: Stock> Shown for HeapValue<T, Q> {
     ghost seen = { λ v. heap v.held };
 
     ghost counted = { T.is_counted };
@@ -253,7 +253,7 @@ impl<T: Element<Q>, Q: Stock, V> Shown<V> for HeapValue<T, Q> {
     ghost is_kind = { is_heap };
 }
 
-impl<T: Element<Q>, Q: Stock, V: Shown<V>> Collection<V, Q> for HeapValue<T, Q> {
+impl<T: Element<Q>, Q: Stock> Collection<Q> for HeapValue<T, Q> {
     ghost takes = { keeps_kind };
 
     fn count(&self) -> usize {
@@ -306,19 +306,6 @@ impl<T: Element<Q>, Q: Stock, V: Shown<V>> Collection<V, Q> for HeapValue<T, Q> 
         }
     }
 
-    fn change_by(
-        &mut self,
-        _statement: &Statement,
-        _other: &V,
-        _h: &mut Holder<Q>,
-    ) -> Result<Result<(), Refusal>, NoMemory> {
-        Ok(Err(Refusal::WrongKind))
-    }
-
-    fn refusal_by(&self, _statement: &Statement, _other: &V) -> Option<Refusal> {
-        Some(Refusal::WrongKind)
-    }
-
     fn parts(&self, statement: &Statement) -> bool {
         match statement {
             Statement::Pop { .. } => !self.held.is_empty(),
@@ -329,10 +316,6 @@ impl<T: Element<Q>, Q: Stock, V: Shown<V>> Collection<V, Q> for HeapValue<T, Q> 
             },
             _ => true,
         }
-    }
-
-    fn parts_by(&self, _statement: &Statement, _other: &V) -> bool {
-        true
     }
 
     fn cost(&self, _statement: &Statement, alone: bool) -> usize {
@@ -360,6 +343,29 @@ impl<T: Element<Q>, Q: Stock, V: Shown<V>> Collection<V, Q> for HeapValue<T, Q> 
         Ok(Ok(()))
     }
 
+    fn slice_refusal(&self, _i: i64, _j: i64) -> Option<Refusal> {
+        Some(Refusal::WrongKind)
+    }
+}
+
+impl<T: Element<Q>, Q: Stock, V: Shown> Meets<V, Q> for HeapValue<T, Q> {
+    fn change_by(
+        &mut self,
+        _statement: &Statement,
+        _other: &V,
+        _h: &mut Holder<Q>,
+    ) -> Result<Result<(), Refusal>, NoMemory> {
+        Ok(Err(Refusal::WrongKind))
+    }
+
+    fn refusal_by(&self, _statement: &Statement, _other: &V) -> Option<Refusal> {
+        Some(Refusal::WrongKind)
+    }
+
+    fn parts_by(&self, _statement: &Statement, _other: &V) -> bool {
+        true
+    }
+
     fn tell_both(
         &self,
         _statement: &Statement,
@@ -371,9 +377,5 @@ impl<T: Element<Q>, Q: Stock, V: Shown<V>> Collection<V, Q> for HeapValue<T, Q> 
 
     fn slice(&mut self, _i: i64, _j: i64, _h: &mut Holder<Q>) -> Result<V, Refusal> {
         Err(Refusal::WrongKind)
-    }
-
-    fn slice_refusal(&self, _i: i64, _j: i64) -> Option<Refusal> {
-        Some(Refusal::WrongKind)
     }
 }

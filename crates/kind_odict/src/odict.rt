@@ -32,7 +32,7 @@ use cow_item::Item;
 use cow_model::{Literal, NoMemory, Refusal, Statement};
 use cow_ordered::OrderedDictionary;
 use cow_print::whole_or_none;
-use cow_value::{Collection, Holds, Shown};
+use cow_value::{Collection, Holds, Meets, Shown};
 use std::alloc::Global;
 
 // Whether the dictionary is full and hasn't the key, so that no pair can come.
@@ -265,13 +265,10 @@ fn swap_parts<T: Element<Q>, Q: Stock>(d: &OrderedDictionary<T, T, Q>, i: i64, j
     ensures { TellsParts result (whole (spec.swap i j)) (plain.ODict d.now.value) }
 {
     let (keys, _) = d.as_slices();
-    let Some(first) = index(0, keys.len(), i) else {
-        return false;
-    };
-    let Some(second) = index(0, keys.len(), j) else {
-        return false;
-    };
-    first != second
+    match (index(0, keys.len(), i), index(0, keys.len(), j)) {
+        (Some(first), Some(second)) => first != second,
+        _ => false,
+    }
 }
 
 /// `reverse N`
@@ -477,7 +474,7 @@ pub struct OrderedDictValue<T: Element<Q>, Q: Stock> {
     pub held: OrderedDictionary<T, T, Q>,
 }
 
-impl<T: Element<Q>, Q: Stock, V> Shown<V> for OrderedDictValue<T, Q> {
+impl<T: Element<Q>, Q: Stock> Shown for OrderedDictValue<T, Q> {
     ghost seen = { λ v. odict v.held };
 
     ghost counted = { T.is_counted };
@@ -485,8 +482,7 @@ impl<T: Element<Q>, Q: Stock, V> Shown<V> for OrderedDictValue<T, Q> {
     ghost is_kind = { is_odict };
 }
 
-impl<T: Element<Q>, Q: Stock, V: Holds<OrderedDictValue<T, Q>>> Collection<V, Q>
-    for OrderedDictValue<T, Q> {
+impl<T: Element<Q>, Q: Stock> Collection<Q> for OrderedDictValue<T, Q> {
     ghost takes = { keeps_kind };
 
     fn count(&self) -> usize {
@@ -533,19 +529,6 @@ impl<T: Element<Q>, Q: Stock, V: Holds<OrderedDictValue<T, Q>>> Collection<V, Q>
         }
     }
 
-    fn change_by(
-        &mut self,
-        _statement: &Statement,
-        _other: &V,
-        _h: &mut Holder<Q>,
-    ) -> Result<Result<(), Refusal>, NoMemory> {
-        Ok(Err(Refusal::WrongKind))
-    }
-
-    fn refusal_by(&self, _statement: &Statement, _other: &V) -> Option<Refusal> {
-        Some(Refusal::WrongKind)
-    }
-
     fn parts(&self, statement: &Statement) -> bool {
         match statement {
             Statement::Put { key, value, .. } => put_parts(&self.held, key, value),
@@ -554,10 +537,6 @@ impl<T: Element<Q>, Q: Stock, V: Holds<OrderedDictValue<T, Q>>> Collection<V, Q>
             Statement::Reverse { .. } => reverse_parts(&self.held),
             _ => true,
         }
-    }
-
-    fn parts_by(&self, _statement: &Statement, _other: &V) -> bool {
-        true
     }
 
     fn cost(&self, _statement: &Statement, alone: bool) -> usize {
@@ -586,6 +565,30 @@ impl<T: Element<Q>, Q: Stock, V: Holds<OrderedDictValue<T, Q>>> Collection<V, Q>
         Ok(Ok(()))
     }
 
+    fn slice_refusal(&self, _i: i64, _j: i64) -> Option<Refusal> {
+        Some(Refusal::WrongKind)
+    }
+}
+
+impl<T: Element<Q>, Q: Stock, V: Holds<OrderedDictValue<T, Q>>> Meets<V, Q>
+    for OrderedDictValue<T, Q> {
+    fn change_by(
+        &mut self,
+        _statement: &Statement,
+        _other: &V,
+        _h: &mut Holder<Q>,
+    ) -> Result<Result<(), Refusal>, NoMemory> {
+        Ok(Err(Refusal::WrongKind))
+    }
+
+    fn refusal_by(&self, _statement: &Statement, _other: &V) -> Option<Refusal> {
+        Some(Refusal::WrongKind)
+    }
+
+    fn parts_by(&self, _statement: &Statement, _other: &V) -> bool {
+        true
+    }
+
     fn tell_both(
         &self,
         statement: &Statement,
@@ -604,9 +607,5 @@ impl<T: Element<Q>, Q: Stock, V: Holds<OrderedDictValue<T, Q>>> Collection<V, Q>
 
     fn slice(&mut self, _i: i64, _j: i64, _h: &mut Holder<Q>) -> Result<V, Refusal> {
         Err(Refusal::WrongKind)
-    }
-
-    fn slice_refusal(&self, _i: i64, _j: i64) -> Option<Refusal> {
-        Some(Refusal::WrongKind)
     }
 }

@@ -30,7 +30,7 @@ use cow_elements::{Element, Listed, Sought, keeps, put_list};
 use cow_item::Item;
 use cow_model::{Literal, NoMemory, Refusal, Statement};
 use cow_ordered::OrderedSet;
-use cow_value::{Collection, Holds, Shown};
+use cow_value::{Collection, Holds, Meets, Shown};
 use std::alloc::Global;
 
 // Whether the set is full and hasn't the atom, so that no element can be made of it.
@@ -571,7 +571,7 @@ pub struct OrderedSetValue<T: Element<Q>, Q: Stock> {
     pub held: OrderedSet<T, Q>,
 }
 
-impl<T: Element<Q>, Q: Stock, V> Shown<V> for OrderedSetValue<T, Q> {
+impl<T: Element<Q>, Q: Stock> Shown for OrderedSetValue<T, Q> {
     ghost seen = { λ v. oset v.held };
 
     ghost counted = { T.is_counted };
@@ -579,8 +579,7 @@ impl<T: Element<Q>, Q: Stock, V> Shown<V> for OrderedSetValue<T, Q> {
     ghost is_kind = { is_oset };
 }
 
-impl<T: Element<Q>, Q: Stock, V: Holds<OrderedSetValue<T, Q>>> Collection<V, Q>
-    for OrderedSetValue<T, Q> {
+impl<T: Element<Q>, Q: Stock> Collection<Q> for OrderedSetValue<T, Q> {
     ghost takes = { keeps_kind };
 
     fn count(&self) -> usize {
@@ -636,6 +635,48 @@ impl<T: Element<Q>, Q: Stock, V: Holds<OrderedSetValue<T, Q>>> Collection<V, Q>
         }
     }
 
+    fn parts(&self, statement: &Statement) -> bool {
+        match statement {
+            Statement::Append { atom, .. } => append_parts(&self.held, atom),
+            Statement::InsertAt { i, atom, .. } => insert_at_parts(&self.held, *i, atom),
+            Statement::Update { atom, .. } => update_parts(&self.held, atom),
+            Statement::Remove { atom, .. } => remove_parts(&self.held, atom),
+            Statement::Swap { i, j, .. } => !keeps::swap(self, *i, *j),
+            Statement::Reverse { .. } => !keeps::is_palindrome(self),
+            _ => true,
+        }
+    }
+
+    fn cost(&self, _statement: &Statement, alone: bool) -> usize {
+        if alone { 0 } else { self.held.count() }
+    }
+
+    fn both_cost(&self, alone: bool) -> usize {
+        if alone { 0 } else { self.held.count() }
+    }
+
+    fn tell(
+        &self,
+        statement: &Statement,
+        text: &mut Vec<u8>,
+    ) -> Result<Result<(), Refusal>, NoMemory> {
+        match statement {
+            Statement::Count { .. } => put_number(self.held.count(), text)?,
+            Statement::At { i, .. } => return at(&self.held, *i, text),
+            Statement::Has { atom, .. } => put_truth(self.held.contains(&Sought::by(atom)), text)?,
+            Statement::Place { atom, .. } => put_place(&self.held, atom, text)?,
+            _ => return Ok(Err(Refusal::WrongKind)),
+        }
+        Ok(Ok(()))
+    }
+
+    fn slice_refusal(&self, _i: i64, _j: i64) -> Option<Refusal> {
+        Some(Refusal::WrongKind)
+    }
+}
+
+impl<T: Element<Q>, Q: Stock, V: Holds<OrderedSetValue<T, Q>>> Meets<V, Q>
+    for OrderedSetValue<T, Q> {
     fn change_by(
         &mut self,
         statement: &Statement,
@@ -666,18 +707,6 @@ impl<T: Element<Q>, Q: Stock, V: Holds<OrderedSetValue<T, Q>>> Collection<V, Q>
         }
     }
 
-    fn parts(&self, statement: &Statement) -> bool {
-        match statement {
-            Statement::Append { atom, .. } => append_parts(&self.held, atom),
-            Statement::InsertAt { i, atom, .. } => insert_at_parts(&self.held, *i, atom),
-            Statement::Update { atom, .. } => update_parts(&self.held, atom),
-            Statement::Remove { atom, .. } => remove_parts(&self.held, atom),
-            Statement::Swap { i, j, .. } => !keeps::swap(self, *i, *j),
-            Statement::Reverse { .. } => !keeps::is_palindrome(self),
-            _ => true,
-        }
-    }
-
     fn parts_by(&self, statement: &Statement, other: &V) -> bool {
         let Some(other) = other.as_kind() else {
             return true;
@@ -689,29 +718,6 @@ impl<T: Element<Q>, Q: Stock, V: Holds<OrderedSetValue<T, Q>>> Collection<V, Q>
             Statement::SymDiff { .. } => !other.held.is_empty(),
             _ => true,
         }
-    }
-
-    fn cost(&self, _statement: &Statement, alone: bool) -> usize {
-        if alone { 0 } else { self.held.count() }
-    }
-
-    fn both_cost(&self, alone: bool) -> usize {
-        if alone { 0 } else { self.held.count() }
-    }
-
-    fn tell(
-        &self,
-        statement: &Statement,
-        text: &mut Vec<u8>,
-    ) -> Result<Result<(), Refusal>, NoMemory> {
-        match statement {
-            Statement::Count { .. } => put_number(self.held.count(), text)?,
-            Statement::At { i, .. } => return at(&self.held, *i, text),
-            Statement::Has { atom, .. } => put_truth(self.held.contains(&Sought::by(atom)), text)?,
-            Statement::Place { atom, .. } => put_place(&self.held, atom, text)?,
-            _ => return Ok(Err(Refusal::WrongKind)),
-        }
-        Ok(Ok(()))
     }
 
     fn tell_both(
@@ -734,10 +740,6 @@ impl<T: Element<Q>, Q: Stock, V: Holds<OrderedSetValue<T, Q>>> Collection<V, Q>
 
     fn slice(&mut self, _i: i64, _j: i64, _h: &mut Holder<Q>) -> Result<V, Refusal> {
         Err(Refusal::WrongKind)
-    }
-
-    fn slice_refusal(&self, _i: i64, _j: i64) -> Option<Refusal> {
-        Some(Refusal::WrongKind)
     }
 }
 

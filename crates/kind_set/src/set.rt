@@ -26,7 +26,7 @@ use cow_elements::{Element, Sought, put_list};
 use cow_item::Item;
 use cow_model::{Literal, NoMemory, Refusal, Statement};
 use cow_set::Set;
-use cow_value::{Collection, Holds, Shown};
+use cow_value::{Collection, Holds, Meets, Shown};
 use std::alloc::Global;
 
 // Whether the set is full and hasn't the atom, so that no element can be made of it.
@@ -404,7 +404,7 @@ pub struct SetValue<T: Element<Q>, Q: Stock> {
     pub held: Set<T, Q>,
 }
 
-impl<T: Element<Q>, Q: Stock, V> Shown<V> for SetValue<T, Q> {
+impl<T: Element<Q>, Q: Stock> Shown for SetValue<T, Q> {
     ghost seen = { λ v. set v.held };
 
     ghost counted = { T.is_counted };
@@ -412,7 +412,7 @@ impl<T: Element<Q>, Q: Stock, V> Shown<V> for SetValue<T, Q> {
     ghost is_kind = { is_set };
 }
 
-impl<T: Element<Q>, Q: Stock, V: Holds<SetValue<T, Q>>> Collection<V, Q> for SetValue<T, Q> {
+impl<T: Element<Q>, Q: Stock> Collection<Q> for SetValue<T, Q> {
     ghost takes = { keeps_kind };
 
     fn count(&self) -> usize {
@@ -457,6 +457,44 @@ impl<T: Element<Q>, Q: Stock, V: Holds<SetValue<T, Q>>> Collection<V, Q> for Set
         }
     }
 
+    fn parts(&self, statement: &Statement) -> bool {
+        match statement {
+            Statement::Insert { atom, .. } => insert_parts(&self.held, atom),
+            Statement::Update { atom, .. } => update_parts(&self.held, atom),
+            Statement::Remove { atom, .. } => remove_parts(&self.held, atom),
+            _ => true,
+        }
+    }
+
+    fn cost(&self, _statement: &Statement, alone: bool) -> usize {
+        if alone { 0 } else { self.held.count() }
+    }
+
+    fn both_cost(&self, alone: bool) -> usize {
+        if alone { 0 } else { self.held.count() }
+    }
+
+    fn tell(
+        &self,
+        statement: &Statement,
+        text: &mut Vec<u8>,
+    ) -> Result<Result<(), Refusal>, NoMemory> {
+        match statement {
+            Statement::Count { .. } => put_number(self.held.count(), text)?,
+            Statement::Has { atom, .. } => {
+                put_truth(self.held.contains(&Sought::by(atom)), text)?;
+            }
+            _ => return Ok(Err(Refusal::WrongKind)),
+        }
+        Ok(Ok(()))
+    }
+
+    fn slice_refusal(&self, _i: i64, _j: i64) -> Option<Refusal> {
+        Some(Refusal::WrongKind)
+    }
+}
+
+impl<T: Element<Q>, Q: Stock, V: Holds<SetValue<T, Q>>> Meets<V, Q> for SetValue<T, Q> {
     fn change_by(
         &mut self,
         statement: &Statement,
@@ -487,15 +525,6 @@ impl<T: Element<Q>, Q: Stock, V: Holds<SetValue<T, Q>>> Collection<V, Q> for Set
         }
     }
 
-    fn parts(&self, statement: &Statement) -> bool {
-        match statement {
-            Statement::Insert { atom, .. } => insert_parts(&self.held, atom),
-            Statement::Update { atom, .. } => update_parts(&self.held, atom),
-            Statement::Remove { atom, .. } => remove_parts(&self.held, atom),
-            _ => true,
-        }
-    }
-
     fn parts_by(&self, statement: &Statement, other: &V) -> bool {
         let Some(other) = other.as_kind() else {
             return true;
@@ -507,29 +536,6 @@ impl<T: Element<Q>, Q: Stock, V: Holds<SetValue<T, Q>>> Collection<V, Q> for Set
             Statement::SymDiff { .. } => !other.held.is_empty(),
             _ => true,
         }
-    }
-
-    fn cost(&self, _statement: &Statement, alone: bool) -> usize {
-        if alone { 0 } else { self.held.count() }
-    }
-
-    fn both_cost(&self, alone: bool) -> usize {
-        if alone { 0 } else { self.held.count() }
-    }
-
-    fn tell(
-        &self,
-        statement: &Statement,
-        text: &mut Vec<u8>,
-    ) -> Result<Result<(), Refusal>, NoMemory> {
-        match statement {
-            Statement::Count { .. } => put_number(self.held.count(), text)?,
-            Statement::Has { atom, .. } => {
-                put_truth(self.held.contains(&Sought::by(atom)), text)?;
-            }
-            _ => return Ok(Err(Refusal::WrongKind)),
-        }
-        Ok(Ok(()))
     }
 
     fn tell_both(
@@ -552,9 +558,5 @@ impl<T: Element<Q>, Q: Stock, V: Holds<SetValue<T, Q>>> Collection<V, Q> for Set
 
     fn slice(&mut self, _i: i64, _j: i64, _h: &mut Holder<Q>) -> Result<V, Refusal> {
         Err(Refusal::WrongKind)
-    }
-
-    fn slice_refusal(&self, _i: i64, _j: i64) -> Option<Refusal> {
-        Some(Refusal::WrongKind)
     }
 }

@@ -3,7 +3,7 @@ use Rattle.std.specs.Prelude.{nat_eq}
 use Rattle.std.proofs.lemmas.Bool.Decides.{Decides-at, Decides-eqb}
 use Rattle.std.proofs.lemmas.Grind.{common_steps}
 use Rattle.cow_elements.proofs.Alike.{extend-same}
-use Rattle.kind_array.proofs.array.ArrayValueCollection.parts_by.Goals as goal
+use Rattle.kind_array.proofs.array.ArrayValueMeets.parts_by.Goals as goal
 
 pub returns : goal.returns
 returns g c =

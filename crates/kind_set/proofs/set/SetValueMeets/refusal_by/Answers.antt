@@ -1,7 +1,7 @@
 use Rattle.std.proofs.Common.{arith}
 use Rattle.std.proofs.lemmas.Grind.{common_steps}
 use Rattle.cow_elements.proofs.Members.{length_inter, length_minus}
-use Rattle.kind_oset.proofs.oset.OrderedSetValueCollection.refusal_by.Goals as goal
+use Rattle.kind_set.proofs.set.SetValueMeets.refusal_by.Goals as goal
 
 pub returns-in-Inter : goal.returns-in-Inter
 returns-in-Inter g c =

@@ -1,7 +1,7 @@
 use Rattle.std.proofs.Common.{arith}
 use Rattle.std.proofs.lemmas.Grind.{common_steps}
 use Rattle.kind_dict.proofs.Dicts.{length_within}
-use Rattle.kind_dict.proofs.dict.DictValueCollection.refusal_by.Goals as goal
+use Rattle.kind_dict.proofs.dict.DictValueMeets.refusal_by.Goals as goal
 
 pub returns-in-Some-as_kind : goal.returns-in-Some-as_kind
 returns-in-Some-as_kind g c =

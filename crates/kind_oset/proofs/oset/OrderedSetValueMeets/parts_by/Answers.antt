@@ -1,11 +1,12 @@
 use Rattle.std.proofs.Common.{arith}
 use Rattle.std.proofs.lemmas.Grind.{common_steps}
-use Rattle.cow_elements.proofs.Members.{inter-same, minus-same, symdiff-same, union-same}
-use Rattle.kind_set.proofs.set.SetValueCollection.parts_by.Goals as goal
+use Rattle.kind_oset.proofs.OrderedSets.{symdiff-last-same, union-last-same}
+use Rattle.cow_elements.proofs.Members.{inter-same, minus-same}
+use Rattle.kind_oset.proofs.oset.OrderedSetValueMeets.parts_by.Goals as goal
 
 pub returns-in-Union : goal.returns-in-Union
 returns-in-Union g c =
-    let same = union-same c.args.self.now.held.value c.in-Some.other.now.held.value in
+    let same = union-last-same c.args.self.now.held.value c.in-Some.other.now.held.value in
     grind (arith, common_steps, same)
 
 pub returns-in-Inter : goal.returns-in-Inter
@@ -20,5 +21,5 @@ returns-in-Minus g c =
 
 pub returns-in-SymDiff : goal.returns-in-SymDiff
 returns-in-SymDiff g c =
-    let same = symdiff-same c.is_empty.result c.args.self.now.held.value c.in-Some.other.now.held.value c.is_empty.ensures in
+    let same = symdiff-last-same c.is_empty.result c.args.self.now.held.value c.in-Some.other.now.held.value c.is_empty.ensures in
     grind (arith, common_steps, same)
