@@ -41,7 +41,10 @@ pub fn read_pair<T: Element<Q>, Q: Stock>(
 
 // A pair. Want of memory leaves a part of it.
 /// A pair. Want of memory leaves a part of it.
-pub fn put_pair<T: Element<Q>, Q: Stock>(pair: &(&T, &T), text: &mut Vec<u8>) -> Result<(), NoMemory>
+pub fn put_pair<T: Element<Q>, Q: Stock>(
+    pair: &(&T, &T),
+    text: &mut Vec<u8>,
+) -> Result<(), NoMemory>
     ensures ok { OnOk result (text.new.items
         ≡ text.old.items ++ pair_text (pair_of (T.plain pair.now.0.now) (T.plain pair.now.1.now))) }
     ensures front { StartsWith text.new.items text.old.items }

@@ -246,9 +246,7 @@ const HEAPS: &[&str] = &[
 ];
 
 /// The forms of the kinds that are built. A script has those of one.
-const FORMS: &[&[&str]] = &[
-    LISTS, DEQUES, SETS, DICTS, ORDERED, ORDERED_PAIRS, HEAPS,
-];
+const FORMS: &[&[&str]] = &[LISTS, DEQUES, SETS, DICTS, ORDERED, ORDERED_PAIRS, HEAPS];
 
 const NAMES: &[&str] = &["a", "b", "c", "d"];
 
