@@ -31,14 +31,14 @@ pub set-same : (r : Bool) (xs : List Literal) (i : ℕ) (a : Literal) → i < le
 set-same r xs i a lt d = tells-same r xs (set xs i a) (λ t. set-own xs i a (d.0 t), λ e. d.1 (own-set xs i a lt e))
 
 -- one element in two places
-swap-own : {A : Type 0} (d : A) (xs : List A) (i j : ℕ) → i < length xs → j < length xs → get_or xs i d ≡ get_or xs j d → xs ≡ swap xs i j
+pub swap-own : {A : Type 0} (d : A) (xs : List A) (i j : ℕ) → i < length xs → j < length xs → get_or xs i d ≡ get_or xs j d → xs ≡ swap xs i j
 swap-own d xs i j lt less e =
     let w = swap_is xs i j d lt less in
     let v = rw (← e, set-get_or xs i d, e, set-get_or xs j d) at w in
     v
 
 -- a list that a swap leaves the same
-own-swap : {A : Type 0} (d : A) (xs : List A) (i j : ℕ) → i < length xs → j < length xs → xs ≡ swap xs i j → get_or xs i d ≡ get_or xs j d
+pub own-swap : {A : Type 0} (d : A) (xs : List A) (i j : ℕ) → i < length xs → j < length xs → xs ≡ swap xs i j → get_or xs i d ≡ get_or xs j d
 own-swap d xs i j lt less e =
     let first = set xs i (get_or xs j d) in
     let within : j < length first = rw (length-set xs i (get_or xs j d)) less in

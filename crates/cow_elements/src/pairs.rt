@@ -1,16 +1,50 @@
-// How pairs of a key and a value are printed.
-ghost use Rattle.std.specs.Prelude.{◌≡◌, ◌++◌, List, map, codes, drop, OnOk, OnErr};
+// Pairs of a key and a value: how they are made of literals, and how they are printed.
+ghost use Rattle.std.specs.Prelude.{◌≡◌, ◌+◌, ◌≤◌, ◌++◌, List, map, codes, drop, IfOk, OnOk, OnErr};
 ghost use Rattle.std.specs.Io.{StartsWith};
 ghost use Rattle.std.specs.List.{flat_map};
 ghost use Rattle.cow_elements.specs.Shared.{pair_of};
+ghost use Rattle.cow_model.specs.Literals.{FitsText};
 ghost use Rattle.cow_model.specs.Printed.{behind_comma, pair_text, pairs_text, separated};
+ghost use Rattle.cow_model.specs.Purse.{unit_if};
 
 use crate::element::Element;
-use cow_cell::Stock;
-use cow_model::NoMemory;
+use cow_cell::{Holder, Stock};
+use cow_model::{Literal, NoMemory};
+use std::alloc::Global;
+
+/// The elements of a key and its value, each counted. Want of memory leaves none.
+pub fn read_pair<T: Element<Q>, Q: Stock>(
+    alloc: Global,
+    key: &Literal,
+    value: &Literal,
+    h: &mut Holder<Q>,
+) -> Result<(T, T), NoMemory>
+    requires key { FitsText key.now }
+    requires value { FitsText value.now }
+    requires spare { 2 ≤ h.old.spare }
+    ensures ok { IfOk result (λ p. (T.plain p.0 ≡ key.now) × (T.plain p.1 ≡ value.now)) }
+    ensures spare { OnOk result (h.new.spare
+        + (unit_if (T.is_counted key.now) + unit_if (T.is_counted value.now)) ≡ h.old.spare) }
+    ensures kept { OnErr result (h.new.spare ≡ h.old.spare) }
+    ensures copied { h.new.copied ≤ h.old.copied + 2 }
+    ensures never { h.old.copied ≤ h.new.copied }
+{
+    let k = T::read(alloc, key, h)?;
+    match T::read(alloc, value, h) {
+        Ok(v) => Ok((k, v)),
+        Err(refused) => {
+            k.end(h);
+            Err(refused)
+        }
+    }
+}
 
 // A pair. Want of memory leaves a part of it.
-fn put_pair<T: Element<Q>, Q: Stock>(pair: &(&T, &T), text: &mut Vec<u8>) -> Result<(), NoMemory>
+/// A pair. Want of memory leaves a part of it.
+pub fn put_pair<T: Element<Q>, Q: Stock>(
+    pair: &(&T, &T),
+    text: &mut Vec<u8>,
+) -> Result<(), NoMemory>
     ensures ok { OnOk result (text.new.items
         ≡ text.old.items ++ pair_text (pair_of (T.plain pair.now.0.now) (T.plain pair.now.1.now))) }
     ensures front { StartsWith text.new.items text.old.items }
@@ -22,8 +56,8 @@ fn put_pair<T: Element<Q>, Q: Stock>(pair: &(&T, &T), text: &mut Vec<u8>) -> Res
     Ok(())
 }
 
-// A comma, and then a pair. Want of memory leaves a part of them.
-fn put_behind_comma<T: Element<Q>, Q: Stock>(
+/// A comma, and then a pair. Want of memory leaves a part of them.
+pub fn put_behind_comma<T: Element<Q>, Q: Stock>(
     pair: &(&T, &T),
     text: &mut Vec<u8>,
 ) -> Result<(), NoMemory>

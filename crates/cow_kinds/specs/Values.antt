@@ -6,6 +6,7 @@ use Rattle.kind_array.specs.Values.{array, slice}
 use Rattle.kind_deque.specs.Values.{deque}
 use Rattle.kind_dict.specs.Values.{dict}
 use Rattle.kind_heap.specs.Values.{heap}
+use Rattle.kind_odict.specs.Values.{odict}
 use Rattle.kind_oset.specs.Values.{oset}
 use Rattle.kind_set.specs.Values.{set}
 
@@ -17,4 +18,5 @@ seen (variants.Deque q) = deque q.held
 seen (variants.Set s) = set s.held
 seen (variants.Dict d) = dict d.held
 seen (variants.OSet s) = oset s.held
+seen (variants.ODict d) = odict d.held
 seen (variants.Heap s) = heap s.held

@@ -12,6 +12,7 @@ use kind_array::{ArrayValue, SliceValue};
 use kind_deque::DequeValue;
 use kind_dict::DictValue;
 use kind_heap::HeapValue;
+use kind_odict::OrderedDictValue;
 use kind_oset::OrderedSetValue;
 use kind_set::SetValue;
 use std::alloc::Global;
@@ -25,6 +26,7 @@ pub enum Value<T: Element<Q>, Q: Stock> {
     Set(SetValue<T, Q>),
     Dict(DictValue<T, Q>),
     OSet(OrderedSetValue<T, Q>),
+    ODict(OrderedDictValue<T, Q>),
     Heap(HeapValue<T, Q>),
 }
 
@@ -38,6 +40,7 @@ macro_rules! each {
             Value::Set($it) => $call,
             Value::Dict($it) => $call,
             Value::OSet($it) => $call,
+            Value::ODict($it) => $call,
             Value::Heap($it) => $call,
         }
     };
@@ -53,6 +56,7 @@ macro_rules! alike {
             Value::Set($it) => Value::Set($call),
             Value::Dict($it) => Value::Dict($call),
             Value::OSet($it) => Value::OSet($call),
+            Value::ODict($it) => Value::ODict($call),
             Value::Heap($it) => Value::Heap($call),
         }
     };
@@ -95,6 +99,8 @@ holds!(SetValue, Set);
 holds!(DictValue, Dict);
 
 holds!(OrderedSetValue, OSet);
+
+holds!(OrderedDictValue, ODict);
 
 impl<T: Element<Q>, Q: Stock> Collection<Q> for Value<T, Q> {
     ghost takes = { λ statement. true };
@@ -213,6 +219,7 @@ impl<T: Element<Q>, Q: Stock> Values<Q> for Value<T, Q> {
             Kind::Set => made!(Set, SetValue, kind_set::make(alloc, atoms, h)),
             Kind::Dict => made!(Dict, DictValue, kind_dict::make(alloc, atoms, h)),
             Kind::OSet => made!(OSet, OrderedSetValue, kind_oset::make(alloc, atoms, h)),
+            Kind::ODict => made!(ODict, OrderedDictValue, kind_odict::make(alloc, atoms, h)),
             Kind::Heap => made!(Heap, HeapValue, kind_heap::make(alloc, atoms, h)),
             _ => unreachable!(),
         }

@@ -13,6 +13,7 @@ is_built_kind kind.Deque = true
 is_built_kind kind.Set = true
 is_built_kind kind.Dict = true
 is_built_kind kind.OSet = true
+is_built_kind kind.ODict = true
 is_built_kind kind.Heap = true
 is_built_kind k = false
 

@@ -49,7 +49,13 @@ pub fn unbuilt_line(statement: &Statement) -> Option<u64>
 {
     match statement {
         Statement::Let { line, kind, .. } => match kind {
-            Kind::Array | Kind::Deque | Kind::Set | Kind::Dict | Kind::OSet | Kind::Heap => None,
+            Kind::Array
+            | Kind::Deque
+            | Kind::Set
+            | Kind::Dict
+            | Kind::OSet
+            | Kind::ODict
+            | Kind::Heap => None,
             _ => Some(*line),
         },
         Statement::Lazy { line, .. } => Some(*line),

@@ -183,6 +183,40 @@ const ORDERED: &[&str] = &[
     "clear N",
 ];
 
+const ORDERED_PAIRS: &[&str] = &[
+    "let N = odict K A K A K A",
+    "let N = odict K A K A",
+    "let N = odict",
+    "let N = N",
+    "let N = N",
+    "let N = dict K A K A",
+    "drop N",
+    "show N",
+    "show N",
+    "count N",
+    "put N K A",
+    "put N K A",
+    "put N K A",
+    "get N K",
+    "remove N K",
+    "remove N K",
+    "removeat N P",
+    "removeat N P",
+    "at N P",
+    "at N P",
+    "has N K",
+    "place N K",
+    "place N K",
+    "swap N P P",
+    "swap N P P",
+    "reverse N",
+    "reverse N",
+    "equal N N",
+    "equal N N",
+    "merge N N take",
+    "append N A",
+];
+
 const HEAPS: &[&str] = &[
     "let N = heap K K K L",
     "let N = heap L A A",
@@ -212,7 +246,7 @@ const HEAPS: &[&str] = &[
 ];
 
 /// The forms of the kinds that are built. A script has those of one.
-const FORMS: &[&[&str]] = &[LISTS, DEQUES, SETS, DICTS, ORDERED, HEAPS];
+const FORMS: &[&[&str]] = &[LISTS, DEQUES, SETS, DICTS, ORDERED, ORDERED_PAIRS, HEAPS];
 
 const NAMES: &[&str] = &["a", "b", "c", "d"];
 

@@ -235,6 +235,20 @@ const ROWS: &[(&[&str], &str, &str, u8)] = &[
         "false / true / true / [4, 3, 9, 5] / 5 / 4 / 1 / ! out of range / copied 5 of at most 7",
         0,
     ),
+    // odict_order
+    (
+        CENSUS,
+        "let o = odict 2 20 1 10 3 30 / put o 1 11 / remove o 2 / show o / let p = odict 3 30 1 11 / equal o p / let x = dict 1 11 3 30 / let y = dict 3 30 1 11 / equal x y",
+        "10 / 20 / [1: 11, 3: 30] / false / true / copied 20 of at most 21",
+        0,
+    ),
+    // odict_calls
+    (
+        CENSUS,
+        "let p = odict 1 10 2 20 / swap p 0 1 / show p / reverse p / removeat p 0 / at p 0",
+        "[2: 20, 1: 10] / 1: 10 / 2: 20 / copied 4 of at most 4",
+        0,
+    ),
     // a set that a statement leaves the same still shares its storage, and copies nothing
     (
         CENSUS,

@@ -1,0 +1,2 @@
+pub mod OrderedDicts
+pub mod Values
