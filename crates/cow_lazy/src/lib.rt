@@ -1,5 +1,6 @@
 #![tactic(auto)]
 
+mod ask;
 mod operand;
 mod rule;
 
