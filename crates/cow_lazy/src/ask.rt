@@ -1,11 +1,10 @@
 // One element of a base through a rule, and all of them one after the other.
-ghost use Rattle.std.specs.Prelude.{◌≡◌, ◌+◌, ◌≤◌, ◌++◌, [], ◌∷◌, map, length, count_by, slice_get, option_map, All, Option, Some, None, IfSome, IfNone, OnOk, true};
-ghost use Rattle.cow_lazy.specs.Rules.{raised, RisesTo, is_filter};
+ghost use Rattle.std.specs.Prelude.{◌≡◌, ◌+◌, ◌≤◌, ◌++◌, [], ◌∷◌, map, filter, length, count_by, slice_get, option_map, All, IfSome, IfNone, OnOk};
+ghost use Rattle.cow_lazy.specs.Rules.{raised, RisesTo};
 ghost use Rattle.cow_model.specs.Lazy as lazy;
 ghost use Rattle.cow_model.specs.Lazy.{view, asks, integers_in};
 ghost use Rattle.cow_model.specs.Purse.{less, more, unit_if};
 ghost use Rattle.cow_model.specs.declared.statement.Verb.TheVariants as verb;
-ghost use Rattle.std.specs.Option.{is_none};
 
 use crate::operand::Operand;
 use crate::rule::Rule;
@@ -70,5 +69,120 @@ pub(crate) fn seen<T: Operand<Q>, Q: Stock>(
                 None
             }
         }
+    }
+}
+
+// The first element of the view of these, which nobody has counted. The rule is asked no further than there.
+pub(crate) fn first<T: Operand<Q>, Q: Stock>(
+    items: &[T],
+    shape: Shape,
+    rule: &mut Box<dyn Rule>,
+    h: &mut Holder<Q>,
+) -> Option<T>
+    requires settled { All T.IsSettled items.now }
+    requires rule { shape_of rule.old ≡ shape }
+    requires spare { 1 ≤ h.old.spare }
+    ensures first { option_map T.plain result
+        ≡ slice_get (view shape (map T.plain items.now)) 0 }
+    ensures spent { IfSome result (λ y.
+        h.new ≡ less (unit_if (T.is_counted (T.plain y))) h.old) }
+    ensures free { IfNone result (h.new ≡ h.old) }
+    ensures shape { shape_of rule.new ≡ shape_of rule.old }
+    ensures asked { asked_of rule.new
+        ≡ raised (asks (map T.plain items.now) shape verb.First) (asked_of rule.old) }
+{
+    for x in items {
+        if let Some(y) = seen(x, shape, rule, h) {
+            return Some(y);
+        }
+    }
+    None
+}
+
+// How many of these a rule that filters keeps. Each integer is asked about once.
+pub(crate) fn count_kept<T: Operand<Q>, Q: Stock>(items: &[T], rule: &mut Box<dyn Rule>) -> usize
+    ensures value { result
+        ≡ length (filter (lazy.passes (shape_of rule.old)) (map T.plain items.now)) }
+    ensures shape { shape_of rule.new ≡ shape_of rule.old }
+    ensures asked { asked_of rule.new
+        ≡ raised (integers_in (map T.plain items.now)) (asked_of rule.old) }
+{
+    let mut kept = 0;
+    for x in items {
+        if is_kept(x, rule) {
+            kept += 1;
+        }
+    }
+    kept
+}
+
+// Appends what the view shows of one element, which nobody has counted, or leaves the list as it was.
+fn take<T: Operand<Q>, Q: Stock>(
+    x: &T,
+    shape: Shape,
+    rule: &mut Box<dyn Rule>,
+    taken: &mut Vec<T>,
+    h: &mut Holder<Q>,
+) -> Result<(), NoMemory>
+    requires settled { T.IsSettled x.now }
+    requires rule { shape_of rule.old ≡ shape }
+    requires spare { 1 ≤ h.old.spare }
+    ensures ok { OnOk result (map T.plain taken.new.items
+        ≡ map T.plain taken.old.items ++ view shape (T.plain x.now ∷ [])) }
+    ensures few { length taken.new.items ≤ length taken.old.items + 1 }
+    ensures units { h.new.spare + count_by T.is_counted (map T.plain taken.new.items)
+        ≡ h.old.spare + count_by T.is_counted (map T.plain taken.old.items) }
+    ensures copied { h.new.copied ≡ h.old.copied }
+    ensures shape { shape_of rule.new ≡ shape_of rule.old }
+    ensures asked { asked_of rule.new
+        ≡ raised (integers_in (T.plain x.now ∷ [])) (asked_of rule.old) }
+{
+    let Some(y) = seen(x, shape, rule, h) else {
+        return Ok(());
+    };
+    if let Err(failed) = taken.push(y) {
+        failed.value.end(h);
+        return Err(NoMemory);
+    }
+    Ok(())
+}
+
+// All elements of the view of these, which nobody has counted. Want of memory leaves some of them.
+pub(crate) fn take_all<T: Operand<Q>, Q: Stock>(
+    items: &[T],
+    shape: Shape,
+    rule: &mut Box<dyn Rule>,
+    taken: &mut Vec<T>,
+    h: &mut Holder<Q>,
+) -> Result<(), NoMemory>
+    requires settled { All T.IsSettled items.now }
+    requires rule { shape_of rule.old ≡ shape }
+    requires spare { length items.now ≤ h.old.spare }
+    requires empty { taken.old.items ≡ [] }
+    ensures ok { OnOk result
+        (map T.plain taken.new.items ≡ view shape (map T.plain items.now)) }
+    ensures few { length taken.new.items ≤ length items.now }
+    ensures units { h.new.spare + count_by T.is_counted (map T.plain taken.new.items)
+        ≡ h.old.spare }
+    ensures copied { h.new.copied ≡ h.old.copied }
+    ensures shape { shape_of rule.new ≡ shape_of rule.old }
+    ensures asked { OnOk result (asked_of rule.new
+        ≡ raised (integers_in (map T.plain items.now)) (asked_of rule.old)) }
+    ensures once { RisesTo (integers_in (map T.plain items.now))
+        (asked_of rule.old) (asked_of rule.new) }
+{
+    for x in items {
+        take(x, shape, rule, taken, h)?;
+    }
+    Ok(())
+}
+
+// Ends elements.
+pub(crate) fn end_all<T: Operand<Q>, Q: Stock>(items: Vec<T>, h: &mut Holder<Q>)
+    ensures { h.new ≡ more (count_by T.is_counted (map T.plain items.items)) h.old }
+{
+    let mut items = items;
+    while let Some(x) = items.pop() {
+        x.end(h);
     }
 }
