@@ -1,15 +1,18 @@
 // One element of a base through a rule, and all of them one after the other.
-ghost use Rattle.std.specs.Prelude.{◌≡◌, ◌+◌, ◌≤◌, ◌++◌, [], ◌∷◌, map, filter, length, count_by, slice_get, option_map, All, IfSome, IfNone, OnOk};
+ghost use Rattle.std.specs.Prelude.{◌≡◌, ◌+◌, ◌*◌, ◌<◌, ◌≤◌, ◌^◌, ◌++◌, [], ◌∷◌, map, filter, length, count_by, slice_get, option_map, All, IfSome, IfNone, IfOk, OnOk, OnErr, vec_len};
 ghost use Rattle.cow_lazy.specs.Rules.{raised, RisesTo};
+ghost use Rattle.cow_model.specs.Flat.{Becomes};
 ghost use Rattle.cow_model.specs.Lazy as lazy;
 ghost use Rattle.cow_model.specs.Lazy.{view, asks, integers_in};
-ghost use Rattle.cow_model.specs.Purse.{less, more, unit_if};
+ghost use Rattle.cow_model.specs.Purse.{less, more, noted, unit_if};
 ghost use Rattle.cow_model.specs.declared.statement.Verb.TheVariants as verb;
 
 use crate::operand::Operand;
 use crate::rule::Rule;
+use cow_array::Array;
 use cow_cell::{Holder, Stock};
 use cow_model::{NoMemory, Shape};
+use std::alloc::Global;
 
 // What a rule makes of an element: of an integer another one, of a text a second item of it.
 fn mapped<T: Operand<Q>, Q: Stock>(x: &T, rule: &mut Box<dyn Rule>, h: &mut Holder<Q>) -> T
@@ -175,6 +178,63 @@ pub(crate) fn take_all<T: Operand<Q>, Q: Stock>(
         take(x, shape, rule, taken, h)?;
     }
     Ok(())
+}
+
+// All elements of the view of an array, which nobody has counted. Want of memory leaves the holder as it was.
+pub(crate) fn collected<T: Operand<Q>, Q: Stock>(
+    alloc: Global,
+    base: &Array<T, Q>,
+    shape: Shape,
+    rule: &mut Box<dyn Rule>,
+    h: &mut Holder<Q>,
+) -> Result<Vec<T>, NoMemory>
+    requires rule { shape_of rule.old ≡ shape }
+    requires spare { length base.now.value ≤ h.old.spare }
+    ensures ok { IfOk result (λ taken. map T.plain taken.items ≡ view shape base.now.value) }
+    ensures small { IfOk result (λ taken. vec_len taken < 2 ^ 31) }
+    ensures units { IfOk result (λ taken.
+        h.new.spare + count_by T.is_counted (map T.plain taken.items) ≡ h.old.spare) }
+    ensures falls { h.old.spare ≤ h.new.spare + length base.now.value }
+    ensures copied { h.new.copied ≡ h.old.copied }
+    ensures refused { OnErr result (h.new ≡ h.old) }
+    ensures shape { shape_of rule.new ≡ shape_of rule.old }
+    ensures asked { OnOk result (asked_of rule.new
+        ≡ raised (integers_in base.now.value) (asked_of rule.old)) }
+    ensures once { RisesTo (integers_in base.now.value) (asked_of rule.old) (asked_of rule.new) }
+{
+    let mut taken = Vec::with_capacity(alloc, base.count())?;
+    if let Err(refused) = take_all(base.as_slice(), shape, rule, &mut taken, h) {
+        end_all(taken, h);
+        return Err(refused);
+    }
+    Ok(taken)
+}
+
+// An array of these, each counted as one copy. Want of memory ends them.
+pub(crate) fn array_of<T: Operand<Q>, Q: Stock>(
+    alloc: Global,
+    taken: Vec<T>,
+    h: &mut Holder<Q>,
+) -> Result<Array<T, Q>, NoMemory>
+    requires growth { vec_len taken < 2 ^ 31 }
+    requires spare { 1 ≤ h.old.spare }
+    ensures ok { IfOk result (λ a. Becomes (map T.plain taken.items) a) }
+    ensures spent { OnOk result (h.new
+        ≡ noted (T.WEIGHT * length (map T.plain taken.items)) (less 1 h.old)) }
+    ensures refused { OnErr result
+        (h.new ≡ more (count_by T.is_counted (map T.plain taken.items)) h.old) }
+{
+    let copied = T::WEIGHT * taken.len() as u64;
+    match Array::from_vec(alloc, taken, h) {
+        Ok(made) => {
+            h.note(copied);
+            Ok(made)
+        }
+        Err((refused, taken)) => {
+            end_all(taken, h);
+            Err(refused)
+        }
+    }
 }
 
 // Ends elements.
