@@ -1,6 +1,6 @@
 // One element of a base through a rule, and all of them one after the other.
 ghost use Rattle.std.specs.Prelude.{◌≡◌, ◌+◌, ◌*◌, ◌<◌, ◌≤◌, ◌^◌, ◌++◌, [], ◌∷◌, map, filter, length, count_by, slice_get, option_map, All, IfSome, IfNone, IfOk, OnOk, OnErr, vec_len};
-ghost use Rattle.cow_lazy.specs.Rules.{raised, RisesTo};
+ghost use Rattle.cow_rule.specs.Asked.{raised, RisesTo};
 ghost use Rattle.cow_model.specs.Flat.{Becomes};
 ghost use Rattle.cow_model.specs.Lazy as lazy;
 ghost use Rattle.cow_model.specs.Lazy.{view, asks, integers_in};
@@ -8,10 +8,10 @@ ghost use Rattle.cow_model.specs.Purse.{less, more, noted, unit_if};
 ghost use Rattle.cow_model.specs.declared.statement.Verb.TheVariants as verb;
 
 use crate::operand::Operand;
-use crate::rule::Rule;
 use cow_array::Array;
 use cow_cell::{Holder, Stock};
 use cow_model::{NoMemory, Shape};
+use cow_rule::Rule;
 use std::alloc::Global;
 
 // What a rule makes of an element: of an integer another one, of a text a second item of it.

@@ -1,5 +1,5 @@
 ghost use Rattle.std.specs.Prelude.{◌≡◌, ℤ, false};
-ghost use Rattle.cow_lazy.specs.Rules.{integer};
+ghost use Rattle.cow_lazy.specs.Operands.{integer};
 ghost use Rattle.cow_model.specs.declared.plain.Literal.TheVariants.{Int};
 ghost use Rattle.std.proofs.Common.{refl};
 

@@ -1,5 +1,5 @@
 ghost use Rattle.std.specs.Prelude.{◌≡◌, ◌+◌, ◌*◌, ◌≤◌, map, length, count_by, slice_get, option_map, IfOk, IfSome, IfNone, OnOk, OnErr};
-ghost use Rattle.cow_lazy.specs.Rules.{raised, RisesTo};
+ghost use Rattle.cow_rule.specs.Asked.{raised, RisesTo};
 ghost use Rattle.cow_model.specs.Flat.{Becomes, need};
 ghost use Rattle.cow_model.specs.Lazy.{view, asks, integers_in};
 ghost use Rattle.cow_model.specs.Purse.{Moves, less, more, noted, unit_if};
@@ -8,10 +8,10 @@ ghost use Rattle.cow_row.specs.Changes.{Returns};
 
 use crate::ask;
 use crate::operand::Operand;
-use crate::rule::Rule;
 use cow_array::Array;
 use cow_cell::{Holder, Stock};
 use cow_model::{NoMemory, Shape};
+use cow_rule::Rule;
 use std::alloc::Global;
 use std::marker::Model;
 

@@ -1,6 +1,6 @@
 use Rattle.std.proofs.Common.{◌≡◌, ◌+◌, ◌≤◌, length, map, drop}
 use Rattle.std.specs.Prelude.{filter}
-use Rattle.cow_lazy.specs.Rules.{raised}
+use Rattle.cow_rule.specs.Asked.{raised}
 use Rattle.cow_model.specs.Lazy.{passes, integers_in}
 use Rattle.cow_lazy.proofs.ask.count_kept.Given as goal
 

@@ -1,5 +1,5 @@
 use Rattle.std.proofs.Common.{◌≡◌, map, drop}
-use Rattle.cow_lazy.specs.Rules.{raised}
+use Rattle.cow_rule.specs.Asked.{raised}
 use Rattle.cow_model.specs.Lazy.{view, asks}
 use Rattle.cow_model.specs.declared.statement.Verb.TheVariants.{First}
 use Rattle.cow_lazy.proofs.ask.first.Given as goal

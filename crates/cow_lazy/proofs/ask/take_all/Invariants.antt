@@ -1,5 +1,5 @@
 use Rattle.std.proofs.Common.{◌≡◌, ◌+◌, ◌≤◌, ◌++◌, length, map, drop, count_by}
-use Rattle.cow_lazy.specs.Rules.{raised}
+use Rattle.cow_rule.specs.Asked.{raised}
 use Rattle.cow_model.specs.Lazy.{view, integers_in}
 use Rattle.cow_lazy.proofs.ask.take_all.Given as goal
 

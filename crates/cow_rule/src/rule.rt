@@ -1,5 +1,5 @@
 ghost use Rattle.std.specs.Prelude.{◌≡◌, ℕ};
-ghost use Rattle.cow_lazy.specs.Rules.{raised};
+ghost use Rattle.cow_rule.specs.Asked.{raised};
 ghost use Rattle.cow_model.specs.Lazy as lazy;
 ghost use Rattle.cow_model.specs.declared.shape.Shape.{Shape as Form};
 
