@@ -53,11 +53,11 @@ few-copies w n m h = grind (arith, common_steps, h)
 -- what a view costs, by numbers
 moved : (w u u' n n' : ℕ) (h : Purse) → u ≤ u' → n ≤ n' → Moves (1 + u') (w * n') h (noted (w * n) (less (1 + u) h))
 moved w u u' n n' h below few = record {
-    falls = omega (arith, below);
-    rises = omega arith;
-    copied = omega (arith, few-copies w n n' few);
-    kept = omega arith;
-  }
+  falls = omega (arith, below);
+  rises = omega arith;
+  copied = omega (arith, few-copies w n n' few);
+  kept = omega arith;
+}
 
 -- what a view costs, by the list under it
 pub view-moves : (counted : Literal → Bool) → ((x : ℤ) → counted (Int x) ≡ false) → (w : ℕ) (shape : Shape) (items : List Literal) (h : Purse) → Moves (1 + count_by counted items) (w * length items) h (noted (w * length (view shape items)) (less (1 + count_by counted (view shape items)) h))

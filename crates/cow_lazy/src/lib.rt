@@ -20,6 +20,6 @@ mod ask;
 mod operand;
 mod view;
 
-pub use operand::Operand;
 pub use cow_rule::{PlainRule, Rule};
+pub use operand::Operand;
 pub use view::LazyView;

@@ -35,7 +35,7 @@ pub trait Rule: Drop {
         ensures asked { asked_of self.new ≡ raised 1 (asked_of self.old) };
 }
 
-/// A rule that is its shape and the number of its answers.
+/// A rule that is its shape and how often it was asked.
 #[derive(Clone, Copy, Debug, PartialEq, Eq)]
 pub struct PlainRule {
     pub shape: Shape,

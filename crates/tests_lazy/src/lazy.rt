@@ -280,7 +280,13 @@ fn both<Q: Stock>(alloc: Global, opening: Opening) -> Option<(usize, u64, u64, u
     made.end(&mut h);
     view.end(&mut h);
     a.end(&mut h);
-    Some((count, for_count, rule.asked(), h.copied(), h.spare() == WHOLE))
+    Some((
+        count,
+        for_count,
+        rule.asked(),
+        h.copied(),
+        h.spare() == WHOLE,
+    ))
 }
 
 #[test]
