@@ -70,37 +70,96 @@ impl<T: Element<Q>, Q: Stock> Shown for Value<T, Q> {
     ghost is_kind = { λ value. true };
 }
 
-// A kind of the enum.
-macro_rules! holds {
-    ($kind:ident, $variant:ident) => {
-        impl<T: Element<Q>, Q: Stock> Holds<$kind<T, Q>> for Value<T, Q> {
-            fn as_kind(&self) -> Option<&$kind<T, Q>> {
-                match self {
-                    Value::$variant(kind) => Some(kind),
-                    _ => None,
-                }
-            }
-
-            fn of(kind: $kind<T, Q>) -> Value<T, Q> {
-                Value::$variant(kind)
-            }
+impl<T: Element<Q>, Q: Stock> Holds<ArrayValue<T, Q>> for Value<T, Q> {
+    fn as_kind(&self) -> Option<&ArrayValue<T, Q>> {
+        match self {
+            Value::Array(kind) => Some(kind),
+            _ => None,
         }
-    };
+    }
+
+    fn of(kind: ArrayValue<T, Q>) -> Value<T, Q> {
+        Value::Array(kind)
+    }
 }
 
-holds!(ArrayValue, Array);
+impl<T: Element<Q>, Q: Stock> Holds<SliceValue<T, Q>> for Value<T, Q> {
+    fn as_kind(&self) -> Option<&SliceValue<T, Q>> {
+        match self {
+            Value::Slice(kind) => Some(kind),
+            _ => None,
+        }
+    }
 
-holds!(SliceValue, Slice);
+    fn of(kind: SliceValue<T, Q>) -> Value<T, Q> {
+        Value::Slice(kind)
+    }
+}
 
-holds!(DequeValue, Deque);
+impl<T: Element<Q>, Q: Stock> Holds<DequeValue<T, Q>> for Value<T, Q> {
+    fn as_kind(&self) -> Option<&DequeValue<T, Q>> {
+        match self {
+            Value::Deque(kind) => Some(kind),
+            _ => None,
+        }
+    }
 
-holds!(SetValue, Set);
+    fn of(kind: DequeValue<T, Q>) -> Value<T, Q> {
+        Value::Deque(kind)
+    }
+}
 
-holds!(DictValue, Dict);
+impl<T: Element<Q>, Q: Stock> Holds<SetValue<T, Q>> for Value<T, Q> {
+    fn as_kind(&self) -> Option<&SetValue<T, Q>> {
+        match self {
+            Value::Set(kind) => Some(kind),
+            _ => None,
+        }
+    }
 
-holds!(OrderedSetValue, OSet);
+    fn of(kind: SetValue<T, Q>) -> Value<T, Q> {
+        Value::Set(kind)
+    }
+}
 
-holds!(OrderedDictValue, ODict);
+impl<T: Element<Q>, Q: Stock> Holds<DictValue<T, Q>> for Value<T, Q> {
+    fn as_kind(&self) -> Option<&DictValue<T, Q>> {
+        match self {
+            Value::Dict(kind) => Some(kind),
+            _ => None,
+        }
+    }
+
+    fn of(kind: DictValue<T, Q>) -> Value<T, Q> {
+        Value::Dict(kind)
+    }
+}
+
+impl<T: Element<Q>, Q: Stock> Holds<OrderedSetValue<T, Q>> for Value<T, Q> {
+    fn as_kind(&self) -> Option<&OrderedSetValue<T, Q>> {
+        match self {
+            Value::OSet(kind) => Some(kind),
+            _ => None,
+        }
+    }
+
+    fn of(kind: OrderedSetValue<T, Q>) -> Value<T, Q> {
+        Value::OSet(kind)
+    }
+}
+
+impl<T: Element<Q>, Q: Stock> Holds<OrderedDictValue<T, Q>> for Value<T, Q> {
+    fn as_kind(&self) -> Option<&OrderedDictValue<T, Q>> {
+        match self {
+            Value::ODict(kind) => Some(kind),
+            _ => None,
+        }
+    }
+
+    fn of(kind: OrderedDictValue<T, Q>) -> Value<T, Q> {
+        Value::ODict(kind)
+    }
+}
 
 impl<T: Element<Q>, Q: Stock> Collection<Q> for Value<T, Q> {
     ghost takes = { λ statement. true };
