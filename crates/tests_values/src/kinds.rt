@@ -10,7 +10,7 @@ use cow_cell::{Holder, Opening, Stock};
 use cow_item::Atom;
 use cow_kinds::Value;
 use cow_model::{Kind, Literal, Name, NoMemory, Refusal, Side, Statement};
-use cow_value::{Collection, Values};
+use cow_value::{Collection, Meets, Values};
 use sqlite_items::Items;
 use std::alloc::Global;
 use std::marker::Brand;
