@@ -1,10 +1,12 @@
 pub mod Apart
+pub mod Asking
 pub mod BareNames
 pub mod ByOther
 pub mod Costs
 pub mod Flags
 pub mod Handing
 pub mod Itself
+pub mod Looking
 pub mod Makes
 pub mod Places
 pub mod Reading

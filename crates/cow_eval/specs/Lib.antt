@@ -1,3 +1,4 @@
 pub mod Entries
 pub mod Envs
+pub mod Looks
 pub mod Statements

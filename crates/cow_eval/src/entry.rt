@@ -1,10 +1,11 @@
 // A name with its value, and what one statement does to it.
-ghost use Rattle.std.specs.Prelude.{◌≡◌, [], ◌+◌, ◌^◌, ◌≤◌, ◌<◌, ◌++◌, true, false, ⊤, Err, OnOk, OnErr, IfOk, MatchResult};
+ghost use Rattle.std.specs.Prelude.{◌≡◌, [], ◌+◌, ◌^◌, ◌≤◌, ◌<◌, ◌++◌, true, false, ⊤, Err, length, take, OnOk, OnErr, IfOk, IfSome, IfNone, MatchResult};
 ghost use Rattle.std.specs.Io.{StartsWith};
 ghost use Rattle.std.specs.Str.{bytes_eq};
 ghost use Rattle.cow_model.specs.Answers.{refusal_in};
 ghost use Rattle.cow_model.specs.Atoms.{FitsTexts, counted_in};
 ghost use Rattle.cow_model.specs.Changes.{query_of, query_both_of};
+ghost use Rattle.cow_model.specs.Lazy.{asks};
 ghost use Rattle.cow_model.specs.Operation as operation;
 ghost use Rattle.cow_model.specs.Plain as plain;
 ghost use Rattle.cow_model.specs.Plain.{max_count, stop};
@@ -13,14 +14,19 @@ ghost use Rattle.cow_model.specs.Purse.{less};
 ghost use Rattle.cow_model.specs.Sharing.{literals, both_cost_of};
 ghost use Rattle.cow_model.specs.Turns.{turn_of, turn_by_of, added_of, alone_after};
 ghost use Rattle.cow_model.specs.declared.statement.Statement.{out-Statement};
+ghost use Rattle.cow_rule.specs.Asked.{raised};
 ghost use Rattle.cow_value.specs.Calls.{Tells};
 ghost use Rattle.cow_value.specs.Seen.{shared, units};
+ghost use Rattle.cow_views.specs.Views.{has_views, items_of, view_cost};
 ghost use Rattle.cow_eval.specs.Entries.{SeenEntry, Changes, EntryCosts, allowed_for, entry_of, entry_after};
 ghost use Rattle.cow_eval.specs.Entries as entries;
+ghost use Rattle.cow_eval.specs.Looks.{LooksWithin};
 
 use cow_cell::{Holder, Stock};
-use cow_model::{Name, NoMemory, Refusal, Statement};
+use cow_model::{Name, NoMemory, Refusal, Statement, Verb};
+use cow_rule::Rule;
 use cow_value::{Values, added};
+use cow_views::Views;
 use std::alloc::Global;
 use std::marker::{Model, PhantomData};
 use std::mem;
@@ -52,6 +58,23 @@ fn flag_after(parts: bool, done: &Result<Result<(), Refusal>, NoMemory>) -> bool
         Ok(Ok(())) => parts,
         Ok(Err(_)) | Err(_) => false,
     }
+}
+
+// What is left of the room behind a line that stands behind the first `before` bytes. Where it is longer than the
+// room, it is taken back.
+fn keep_within(before: usize, room: u64, text: &mut Vec<u8>) -> Option<u64>
+    requires within { before ≤ length text.old.items }
+    ensures fits { IfSome result (λ left. (text.new.items ≡ text.old.items)
+        × (left + length text.old.items ≡ room + before)) }
+    ensures longer { IfNone result ((text.new.items ≡ take before text.old.items)
+        × (room + before < length text.old.items)) }
+{
+    let length = (text.len() - before) as u64;
+    if length > room {
+        text.truncate(before);
+        return None;
+    }
+    Some(room - length)
 }
 
 impl<V: Values<Q>, Q: Stock> Entry<V, Q> {
@@ -305,5 +328,62 @@ impl<V: Values<Q>, Q: Stock> Entry<V, Q> {
         let result = self.value.change_by(statement, &other, h);
         other.end(h);
         result
+    }
+}
+
+impl<V: Views<Q>, Q: Stock> Entry<V, Q> {
+    /// Whether the value has views.
+    pub fn has_views(&self) -> bool
+        ensures { result ≡ has_views self.now.seen.value }
+    {
+        self.value.has_views()
+    }
+
+    /// The copies that a lazy statement allows.
+    pub fn view_cost(&self, verb: Verb) -> usize
+        requires views { has_views self.now.seen.value ≡ true }
+        ensures cost { result ≡ view_cost verb (items_of self.now.seen.value) }
+        ensures small { result ≤ max_count }
+    {
+        match verb {
+            Verb::First => 1,
+            Verb::Show => self.value.size(),
+            Verb::Count => 0,
+        }
+    }
+
+    /// Appends the line of a lazy statement, for which so many bytes are left where it uses any, and answers how many
+    /// are left then. `None` where it is longer: nothing is appended then, but the rule was asked all the same. The
+    /// value isn't alone afterwards.
+    pub fn look(
+        &mut self,
+        alloc: Global,
+        rule: &mut Box<dyn Rule>,
+        verb: Verb,
+        room: u64,
+        text: &mut Vec<u8>,
+        h: &mut Holder<Q>,
+    ) -> Result<Option<u64>, NoMemory>
+        requires views { has_views self.old.seen.value ≡ true }
+        requires near { stop self.old.seen.value < 2 ^ 31 }
+        requires spare { 2 ^ 39 ≤ h.old.spare }
+        ensures entry { self.new ≡ record self.old { seen = shared self.old.seen; flag = false } }
+        ensures told { IfOk result (LooksWithin (shape_of rule.old) verb (items_of self.old.seen.value) room
+            text.old.items text.new.items) }
+        ensures err { OnErr result (text.new.items ≡ text.old.items) }
+        ensures shape { shape_of rule.new ≡ shape_of rule.old }
+        ensures asked { OnOk result (asked_of rule.new
+            ≡ raised (asks (items_of self.old.seen.value) (shape_of rule.old) verb) (asked_of rule.old)) }
+        ensures kept { entries.IsKept self.new }
+        ensures costs { EntryCosts V.counted (view_cost verb (items_of self.old.seen.value)) ⊤
+            self.old self.new h.old h.new }
+    {
+        self.alone = false;
+        let before = text.len();
+        self.value.look(alloc, rule, verb, text, h)?;
+        match verb {
+            Verb::Show => Ok(keep_within(before, room, text)),
+            Verb::First | Verb::Count => Ok(Some(room)),
+        }
     }
 }

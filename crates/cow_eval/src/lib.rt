@@ -2,7 +2,7 @@
 //!
 //! An [`Env`] keeps a name, a value and a flag for each of at most 64 names. The flag is what the sharing rule
 //! knows: where it is true, the value is alone in its storage, which every environment keeps as an invariant.
-//! [`run_step`] does what the definitions of `cow_model` say: the layer above uses the text that it appends, the
+//! [`run_step`] and, for lazy statements, [`look`] do what the definitions of `cow_model` say: the layer above uses the text that it appends, the
 //! environment that it leaves, and [`Env::allowed`]. What goes from one environment to another is an [`Entry`]: a
 //! name with its value and flag, which is lent or taken out of the one and accepted by the other.
 //!
@@ -15,11 +15,13 @@
 mod both;
 mod entry;
 mod env;
+mod lazy;
 mod names;
 mod run;
 mod statement;
 
 pub use entry::Entry;
 pub use env::Env;
+pub use lazy::look;
 pub use run::run_step;
 pub use statement::refuse;

@@ -6,8 +6,11 @@ ghost use Rattle.cow_kinds.specs.Values as values;
 use crate::rebase::rebase;
 use cow_cell::{Holder, Stock};
 use cow_elements::Element;
-use cow_model::{Kind, Literal, NoMemory, Refusal, Statement};
+use cow_lazy::Operand;
+use cow_model::{Kind, Literal, NoMemory, Refusal, Statement, Verb};
+use cow_rule::Rule;
 use cow_value::{Collection, Holds, Meets, Shown, Values};
+use cow_views::Views;
 use kind_array::{ArrayValue, SliceValue};
 use kind_deque::DequeValue;
 use kind_dict::DictValue;
@@ -15,6 +18,7 @@ use kind_heap::HeapValue;
 use kind_odict::OrderedDictValue;
 use kind_oset::OrderedSetValue;
 use kind_set::SetValue;
+use kind_views::look;
 use std::alloc::Global;
 
 /// A value of any kind that is built.
@@ -285,4 +289,27 @@ impl<T: Element<Q>, Q: Stock> Values<Q> for Value<T, Q> {
     }
 
     ghost takes_all = { λ s. refl };
+}
+
+impl<T: Element<Q> + Operand<Q>, Q: Stock> Views<Q> for Value<T, Q> {
+    fn has_views(&self) -> bool {
+        match self {
+            Value::Array(_) => true,
+            _ => false,
+        }
+    }
+
+    fn look(
+        &mut self,
+        alloc: Global,
+        rule: &mut Box<dyn Rule>,
+        verb: Verb,
+        text: &mut Vec<u8>,
+        h: &mut Holder<Q>,
+    ) -> Result<(), NoMemory> {
+        match self {
+            Value::Array(a) => look(&mut a.held, alloc, rule, verb, text, h),
+            _ => unreachable!(),
+        }
+    }
 }
