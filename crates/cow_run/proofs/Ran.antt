@@ -18,7 +18,7 @@ use Rattle.cow_run.specs.Output.{WritesFront, WritesLine}
 use Rattle.cow_run.specs.Runs.{SaysOf, SaysUnits, StatementsAnswered}
 use Rattle.cow_run.specs.declared.status.Status.{Status}
 use Rattle.cow_run.specs.declared.status.Status.TheVariants as status
-use Rattle.cow_run.proofs.Known.{appends_more}
+use Rattle.cow_run.proofs.Known.{appends_more, appends_none}
 
 -- some text was written, and what is to come completes the whole
 pub record HasWritten (before now : Option (List ℕ)) (rest whole : List ℕ) : Type 0 where
@@ -71,14 +71,18 @@ Asked shapes ss rest env began asked = raised_by (λ k. asks_from env shapes k r
 -- one statement more
 pub asked_more : (shapes : List Shape) (ss rest : List Statement) (s : Statement) (env env' : Environment) (began asked asked' : List ℕ) → Asked shapes ss (s ∷ rest) env began asked → env' ≡ (run_one env shapes s).env → asked' ≡ raised_by (λ k. asks_layer env shapes k (out-Statement s)) asked → Asked shapes ss rest env' began asked'
 asked_more shapes ss rest s env env' began asked asked' so-far is raised =
-    let here = λ k. asks_layer env shapes k (out-Statement s) in
-    let left = λ k. asks_from (run_one env shapes s).env shapes k rest in
+    let here : ℕ → ℕ = λ k. asks_layer env shapes k (out-Statement s) in
+    let left : ℕ → ℕ = λ k. asks_from (run_one env shapes s).env shapes k rest in
     ap (λ e. raised_by (λ k. asks_from e shapes k rest) asked') is ∙ (ap (raised_by left) raised ∙ (raised-on here left asked ∙ so-far))
 
 -- a front of a text is one of a longer text
 pub front_before : (before after : Option (List ℕ)) (text rest : List ℕ) → WritesFront before after text → WritesFront before after (text ++ rest)
 front_before before after text rest (front, is_front, a) =
     (front, (is_front.0 ++ rest, sym (append_assoc front is_front.0 rest) ∙ ap (λ z. z ++ rest) is_front.1), a)
+
+-- nothing was written of a text
+pub front_none : (held : Option (List ℕ)) (text : List ℕ) → WritesFront held held text
+front_none held text = ([], (text, refl), appends_none held)
 
 -- a text was written, and a front of the next one
 pub front_behind : (before now after : Option (List ℕ)) (text next : List ℕ) → Appends before now text → WritesFront now after next → WritesFront before after (text ++ next)

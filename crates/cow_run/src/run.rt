@@ -22,9 +22,11 @@ use crate::output::{write_all, write_census, write_fault, write_not_built};
 use crate::status::Status;
 use cow_cell::{Holder, Stock};
 use cow_crew::Gate;
+use cow_elements::Element;
 use cow_eval::Env;
 use cow_item::Atom;
 use cow_kinds::Value;
+use cow_lazy::Operand;
 use cow_model::{NoMemory, Script, Statement};
 use cow_port::{Failed, Sink, Source};
 use cow_rule::Rule;
@@ -211,6 +213,48 @@ fn run_script<R: Threads + Sync, V: Views<Q> + Send, Q: Stock + Send + Sync, K: 
     Ok(())
 }
 
+// The same over the values of all kinds, of elements of this type: a step between values of any type and those whose
+// elements are atoms, since a call that names all of it at once costs the check more than it may.
+fn run_values<
+    R: Threads + Sync,
+    T: Element<Q> + Operand<Q> + Send + Sync,
+    Q: Stock + Send + Sync,
+    K: Sink,
+    G: Gate,
+>(
+    rt: &R,
+    alloc: Global,
+    statements: &[Statement],
+    running: Running,
+    sink: &mut K,
+    rules: &mut Vec<Box<dyn Rule>>,
+    gate: &G,
+    h: &mut Holder<Q>,
+) -> Result<(), RunStop>
+    requires runs { All (λ s. IsRunnableLayer (out-Statement s)) statements.now }
+    requires few { count_in statements.now ≤ 2 ^ 21 }
+    requires workers { 1 ≤ running.workers }
+    requires fresh { h.old ≡ whole }
+    ensures shapes { map shape_of rules.new.items ≡ map shape_of rules.old.items }
+    ensures asked { OnOk result (map asked_of rules.new.items ≡ raised_by
+        (λ k. asks_from start (map shape_of rules.old.items) k statements.now)
+        (map asked_of rules.old.items)) }
+    ensures ok { OnOk result (Appends (K.held sink.old) (K.held sink.new)
+        (whole_text running.census h.new.copied (map shape_of rules.old.items) statements.now)) }
+    ensures err { OnErr result (WritesFront (K.held sink.old) (K.held sink.new)
+        (whole_text running.census h.new.copied (map shape_of rules.old.items) statements.now)) }
+    ensures most { h.new.copied ≤ bound statements.now (map shape_of rules.old.items) }
+    ensures least { OnOk result (least statements.now (map shape_of rules.old.items) ≤ h.new.copied) }
+    ensures bare { IsBareBlock T.is_counted statements.now → OnOk result (h.new.spare ≡ stock_units) }
+    ensures fault { IsErrOf result RunStop.WriteFault →
+        Rose (K.faults sink.old) (K.faults sink.new) }
+    ensures later { K.faults sink.old ≤ K.faults sink.new }
+{
+    run_script::<R, Value<T, Q>, Q, K, G>(
+        rt, alloc, statements, running, sink, rules, gate, h,
+    )
+}
+
 // How a run ends that wrote all: whether all units came back.
 fn counted<Q: Stock>(h: &Holder<Q>) -> Status
     ensures { SaysUnits h.now result }
@@ -251,7 +295,7 @@ fn run_built<R: Threads + Sync, Q: Stock + Send + Sync, K: Sink, G: Gate>(
         return Status::NotYet { line };
     }
     let statements = script.statements.as_slice();
-    match run_script::<R, Value<Atom<Q>, Q>, Q, K, G>(
+    match run_values::<R, Atom<Q>, Q, K, G>(
         rt, alloc, statements, running, sink, rules, gate, h,
     ) {
         Ok(()) => counted(h),

@@ -33,6 +33,8 @@ loop-statement-preserved g c =
     let ss = c.args.statements.now in
     let all = map (λ rule. (goal.Rule-dyn g (rule.vtable, rule.value)).shape_of rule.value) c.args.rules.now.items in
     let did = c.in_ok-run_and_write.ensures in
+    let began = map (λ rule. (goal.Rule-dyn g (rule.vtable, rule.value)).asked_of rule.value) c.args.rules.now.items in
+    let so-far = map (λ rule. (goal.Rule-dyn g (rule.vtable, rule.value)).asked_of rule.value) loop.rules.items in
     let same = loop.invariant.3 in
     let env = rw same at did.env in
     let next = next_rest ss loop.statement-index c.statement-item.result (search rules) c.statement-item.is in
@@ -42,7 +44,7 @@ loop-statement-preserved g c =
       stands_more _ _ _ all _ _ _ _ _ stands env (rw same at did.ok),
       counts_more g.V.Shown.counted all ss (drop (loop.statement-index + 1) ss) c.statement-item.result loop.env c.run_and_write.new.env loop.h c.run_and_write.new.h counts env c.run_and_write.ensures.copied did.falls did.least (did.next (count_in (drop (loop.statement-index + 1) ss)) (can_next c.statement-item.result (drop (loop.statement-index + 1) ss) loop.env loop.h counts.ready)) did.bare,
       c.run_and_write.ensures.shapes ∙ same,
-      asked_more all ss (drop (loop.statement-index + 1) ss) c.statement-item.result (env_of loop.env) (env_of c.run_and_write.new.env) _ _ _ (subst (λ rest. Asked all ss rest (env_of loop.env) _ _) next loop.invariant.4) env (rw same at did.asked),
+      asked_more all ss (drop (loop.statement-index + 1) ss) c.statement-item.result (env_of loop.env) (env_of c.run_and_write.new.env) began so-far (map (λ rule. (goal.Rule-dyn g (rule.vtable, rule.value)).asked_of rule.value) c.run_and_write.new.rules.items) (subst (λ rest. Asked all ss rest (env_of loop.env) began so-far) next loop.invariant.4) env (rw same at did.asked),
     )
 
 pub returns-in_err-run_and_write-clause-err : goal.returns-in_err-run_and_write-clause-err
