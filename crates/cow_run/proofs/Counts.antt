@@ -8,6 +8,7 @@ use Rattle.cow_model.specs.Env.{start}
 use Rattle.cow_model.specs.declared.plain.Literal.{Literal}
 use Rattle.cow_model.specs.Purse.{Purse, RisesBy, RisesWithin, whole}
 use Rattle.cow_model.specs.Run.{run_one, env_after, bound, least_layer, least_from, least}
+use Rattle.cow_model.specs.declared.shape.Shape.{Shape}
 use Rattle.cow_model.specs.declared.statement.Statement.{Statement, out-Statement}
 use Rattle.cow_model.proofs.Within.{least_allowed, least_within_bound}
 use Rattle.cow_eval.specs.Entries.{most_units}
@@ -23,10 +24,10 @@ pub record Settles (p : Literal → Bool) (rest : List Statement) (env : SeenEnv
   pub sum : h.spare + length env.names ≡ stock_units
 
 -- how far the statements ss were run, of which `rest` is left: what was copied, and which units are out
-pub record Counts (p : Literal → Bool) (ss rest : List Statement) (env : SeenEnv) (h : Purse) : Type 0 where
+pub record Counts (p : Literal → Bool) (shapes : List Shape) (ss rest : List Statement) (env : SeenEnv) (h : Purse) : Type 0 where
   pub most : h.copied ≤ env.allowed
   pub done : ℕ
-  pub told : done + least_from (env_of env) [] rest ≡ least ss []
+  pub told : done + least_from (env_of env) shapes rest ≡ least ss shapes
   pub least : min done (2 ^ 64 - 1) ≤ h.copied
   pub ready : CanRun (count_in rest) env h
   pub parts : HasParts (count_in rest) h
@@ -37,21 +38,21 @@ rises_on : (n m a b : ℕ) → min n (2 ^ 64 - 1) ≤ a → min (a + m) (2 ^ 64 
 rises_on n m a b p q = omega (arith, p, q)
 
 -- one statement more
-pub counts_more : (p : Literal → Bool) (ss rest : List Statement) (s : Statement) (env env' : SeenEnv) (h h' : Purse) → Counts p ss (s ∷ rest) env h
-    → env_of env' ≡ (run_one (env_of env) [] s).env
+pub counts_more : (p : Literal → Bool) (shapes : List Shape) (ss rest : List Statement) (s : Statement) (env env' : SeenEnv) (h h' : Purse) → Counts p shapes ss (s ∷ rest) env h
+    → env_of env' ≡ (run_one (env_of env) shapes s).env
     → RisesWithin env.allowed env'.allowed h h'
     → h.spare ≤ h'.spare + count_of (out-Statement s) * most_units
     → RisesBy (least_layer (env_of env) (out-Statement s)) h h'
     → CanRun (count_in rest) env' h'
     → (IsBare p env.names → IsBareLayer p (out-Statement s) → Balances p 0 env.names env'.names h h')
-    → Counts p ss rest env' h'
-counts_more p ss rest s env env' h h' c is copied fell by ready bare =
+    → Counts p shapes ss rest env' h'
+counts_more p shapes ss rest s env env' h h' c is copied fell by ready bare =
     let atoms = least_layer (env_of env) (out-Statement s) in
-    let told : c.done + (atoms + least_from (run_one (env_of env) [] s).env [] rest) ≡ least ss [] = c.told in
+    let told : c.done + (atoms + least_from (run_one (env_of env) shapes s).env shapes rest) ≡ least ss shapes = c.told in
     record {
       most = let within = copied.copied in omega (arith, c.most, within);
       done = c.done + atoms;
-      told = omega (arith, told, ap (λ e. least_from e [] rest) is);
+      told = omega (arith, told, ap (λ e. least_from e shapes rest) is);
       least = rises_on c.done atoms h.copied h'.copied c.least by;
       ready = ready;
       parts = let parts : 17 * (2 ^ 39 + (count_of (out-Statement s) + count_in rest) * most_units) ≤ h.spare = c.parts in omega (arith, parts, fell);
@@ -62,14 +63,14 @@ counts_more p ss rest s env env' h h' c is copied fell by ready bare =
     }
 
 -- a statement that ran out of memory, or was not written
-pub counts_err : (p : Literal → Bool) (ss rest : List Statement) (s : Statement) (env env' : SeenEnv) (h h' : Purse) → Counts p ss (s ∷ rest) env h
-    → env_after (env_of env) [] (s ∷ rest) ≡ env_after start [] ss
-    → env'.allowed ≤ (run_one (env_of env) [] s).env.allowed
+pub counts_err : (p : Literal → Bool) (shapes : List Shape) (ss rest : List Statement) (s : Statement) (env env' : SeenEnv) (h h' : Purse) → Counts p shapes ss (s ∷ rest) env h
+    → env_after (env_of env) shapes (s ∷ rest) ≡ env_after start shapes ss
+    → env'.allowed ≤ (run_one (env_of env) shapes s).env.allowed
     → RisesWithin env.allowed env'.allowed h h'
-    → h'.copied ≤ bound ss []
-counts_err p ss rest s env env' h h' c ends most copied =
-    let grown = least_allowed (run_one (env_of env) [] s).env [] rest in
-    let same : (env_after (run_one (env_of env) [] s).env [] rest).allowed ≡ bound ss [] = ap (λ e. e.allowed) ends in
+    → h'.copied ≤ bound ss shapes
+counts_err p shapes ss rest s env env' h h' c ends most copied =
+    let grown = least_allowed (run_one (env_of env) shapes s).env shapes rest in
+    let same : (env_after (run_one (env_of env) shapes s).env shapes rest).allowed ≡ bound ss shapes = ap (λ e. e.allowed) ends in
     let within = copied.copied in
     omega (arith, c.most, most, within, grown, same)
 
@@ -102,11 +103,11 @@ pub nothing_left : (ss : List Statement) (i : ℕ) → length ss ≤ i → drop 
 nothing_left ss i = drop_of_length-le ss
 
 -- at the end of the script no fewer copies were made than it has to make, or the number stands at its last value
-pub counts_end : (p : Literal → Bool) (ss : List Statement) (env : SeenEnv) (h : Purse) → Counts p ss [] env h → RisesBy (least ss []) whole h
-counts_end p ss env h c =
-    let told : c.done + 0 ≡ least ss [] = c.told in
+pub counts_end : (p : Literal → Bool) (shapes : List Shape) (ss : List Statement) (env : SeenEnv) (h : Purse) → Counts p shapes ss [] env h → RisesBy (least ss shapes) whole h
+counts_end p shapes ss env h c =
+    let told : c.done + 0 ≡ least ss shapes = c.told in
     omega (arith, told, c.least)
 
 -- it doesn't stand there, since what is allowed is a number of 64 bits, too
-pub counts_exactly : (ss : List Statement) (allowed : ℕ) (h : Purse) → RisesBy (least ss []) whole h → allowed ≡ bound ss [] → allowed ≤ 2 ^ 64 - 1 → least ss [] ≤ h.copied
-counts_exactly ss allowed h by is small = omega (arith, by, least_within_bound ss [], is, small)
+pub counts_exactly : (shapes : List Shape) (ss : List Statement) (allowed : ℕ) (h : Purse) → RisesBy (least ss shapes) whole h → allowed ≡ bound ss shapes → allowed ≤ 2 ^ 64 - 1 → least ss shapes ≤ h.copied
+counts_exactly shapes ss allowed h by is small = omega (arith, by, least_within_bound ss shapes, is, small)

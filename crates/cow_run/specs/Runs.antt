@@ -5,7 +5,7 @@ use Rattle.cow_model.specs.Lexis.{Text}
 use Rattle.cow_model.specs.Purse.{Purse, whole}
 use Rattle.cow_model.specs.declared.statement.Statement.{Statement, out-Statement}
 use Rattle.cow_tasks.specs.Blocks.{IsRunnableLayer, count_in, unbuilt_line}
-use Rattle.cow_run.specs.Answer.{stock_units, HasRun, HasRunInPart, HasRunCounted, Leaks, IsLine, Says}
+use Rattle.cow_run.specs.Answer.{stock_units, Lent, HasRun, HasRunInPart, HasRunCounted, Leaks, IsLine, Says}
 use Rattle.cow_run.specs.Lines.{not_built_text}
 use Rattle.cow_run.specs.declared.status.Status.{Status}
 use Rattle.cow_run.specs.declared.status.Status.TheVariants.{Ok, WriteFault, NoMemory, Leak, NotYet}
@@ -26,22 +26,22 @@ abbrev pub OfBuilt : List Statement → (List Statement → Type 0) → Type 0
 OfBuilt ss holds = (unbuilt_line ss ≡ None) × holds ss
 
 -- what was written at each status once statements were read
-abbrev pub SaysOf : Type 0 → Bool → List Statement → Text → Purse → Status → Type 0
-SaysOf sink_failed census ss written h Ok = OfBuilt ss (HasRun census written h) × (h.spare ≡ stock_units)
-SaysOf sink_failed census ss written h (Leak spare stock) = OfBuilt ss (HasRunCounted census written h) × Leaks spare stock h
-SaysOf sink_failed census ss written h WriteFault = OfBuilt ss (HasRunInPart census written h)
-SaysOf sink_failed census ss written h NoMemory = OfBuilt ss (HasRunInPart census written h)
-SaysOf sink_failed census ss written h (NotYet line) = (unbuilt_line ss ≡ Some line) × IsLine sink_failed written (not_built_text line) × (h ≡ whole)
-SaysOf sink_failed census ss written h status = ⊥
+abbrev pub SaysOf : Type 0 → Bool → Lent → List Statement → Text → Purse → Status → Type 0
+SaysOf sink_failed census rules ss written h Ok = OfBuilt ss (HasRun census written rules h) × (h.spare ≡ stock_units)
+SaysOf sink_failed census rules ss written h (Leak spare stock) = OfBuilt ss (HasRunCounted census written rules h) × Leaks spare stock h
+SaysOf sink_failed census rules ss written h WriteFault = OfBuilt ss (HasRunInPart census written rules h)
+SaysOf sink_failed census rules ss written h NoMemory = OfBuilt ss (HasRunInPart census written rules h)
+SaysOf sink_failed census rules ss written h (NotYet line) = (unbuilt_line ss ≡ Some line) × IsLine sink_failed written (not_built_text line) × (h ≡ whole)
+SaysOf sink_failed census rules ss written h status = ⊥
 
 -- what was written to the sink of a run of these statements is what the status says
-pub record StatementsAnswered (before after : Option Text) (sink_failed : Type 0) (census : Bool) (ss : List Statement) (h : Purse) (status : Status) : Type 0 where
+pub record StatementsAnswered (before after : Option Text) (sink_failed : Type 0) (census : Bool) (rules : Lent) (ss : List Statement) (h : Purse) (status : Status) : Type 0 where
   pub written : Text
   pub appended : Appends before after written
-  pub says : SaysOf sink_failed census ss written h status
+  pub says : SaysOf sink_failed census rules ss written h status
 
 -- what was written to the sink once these bytes were read to their end is what the status says
-pub record BytesAnswered (before after : Option Text) (sink_failed : Type 0) (census : Bool) (bytes : Text) (h : Purse) (status : Status) : Type 0 where
+pub record BytesAnswered (before after : Option Text) (sink_failed : Type 0) (census : Bool) (rules : Lent) (bytes : Text) (h : Purse) (status : Status) : Type 0 where
   pub written : Text
   pub appended : Appends before after written
-  pub says : Says ⊤ sink_failed census bytes written h status
+  pub says : Says ⊤ sink_failed census bytes written rules h status

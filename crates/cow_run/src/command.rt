@@ -1,7 +1,7 @@
 ghost use Rattle.std.specs.Prelude.{◌≡◌, ◌≢◌, ◌↔◌, ◌⊎◌, map, None};
 ghost use Rattle.cow_model.specs.Purse.{whole};
 ghost use Rattle.cow_port.specs.Causes.{Rose};
-ghost use Rattle.cow_run.specs.Answer.{Answers, RunsWhole};
+ghost use Rattle.cow_run.specs.Answer.{Answers, RunsWhole, lent};
 ghost use Rattle.cow_run.specs.Options as spec;
 ghost use Rattle.cow_run.specs.Options.{asks_census};
 
@@ -12,6 +12,7 @@ use crate::status::Status;
 use cow_cell::{Holder, Stock};
 use cow_crew::Gate;
 use cow_port::{Sink, Source};
+use cow_rule::Rule;
 use std::alloc::Global;
 use std::thread::Threads;
 
@@ -31,6 +32,10 @@ use std::thread::Threads;
 ///   all units are back: no storage that the run made is held any more. `Leak` says the first two, and how many
 ///   units are back. It never comes of a script without texts.
 ///
+/// The rules are those that lazy statements name by their places. No call changes a rule's shape; after `Ok` and `Leak`
+/// each was asked as often as the lazy statements of the script's main part say (`asks_from`), or stands at its last
+/// value.
+///
 /// The holder afterwards has the number of items that were copied, which the census tells. After `Ok`, `Leak`,
 /// `WriteFault` and `NoMemory` it is at most what the sharing rule allows the script (`bound`), or nothing where
 /// none was run; after `Ok` and `Leak` it is at least what the script has to make (`least`). On `Usage`, `Script`
@@ -41,15 +46,21 @@ pub fn cowrun<R: Threads + Sync, Q: Stock + Send + Sync, S: Source, K: Sink, G: 
     words: &[&str],
     source: &mut S,
     sink: &mut K,
+    rules: &mut Vec<Box<dyn Rule>>,
     gate: &G,
     h: &mut Holder<Q>,
 ) -> Status
     requires fresh { h.old ≡ whole }
     ensures usage { (result ≡ Status.Usage) ↔ (spec.options (map (λ w. w.now) words.now) ≡ None) }
 
-    // What was read and written, and the holder, are what the status says.
+    // The rules keep their shapes.
+    ensures shapes { map shape_of rules.new.items ≡ map shape_of rules.old.items }
+
+    // What was read and written, the holder, and how often each rule was asked, are what the status says.
     ensures answer { Answers (S.left source.old) (S.left source.new) (K.held sink.old) (K.held sink.new)
-        (Rose (K.faults sink.old) (K.faults sink.new)) (asks_census (spec.options (map (λ w. w.now) words.now))) h.new result }
+        (Rose (K.faults sink.old) (K.faults sink.new)) (asks_census (spec.options (map (λ w. w.now) words.now)))
+        (lent (map shape_of rules.old.items) (map asked_of rules.old.items) (map asked_of rules.new.items))
+        h.new result }
     ensures read_fault { result ≡ Status.ReadFault →
         Rose (S.faults source.old) (S.faults source.new) }
     ensures write_fault { result ≡ Status.WriteFault →
@@ -59,10 +70,11 @@ pub fn cowrun<R: Threads + Sync, Q: Stock + Send + Sync, S: Source, K: Sink, G: 
     ensures complete { spec.options (map (λ w. w.now) words.now) ≢ None →
         RunsWhole (S.left source.old) (K.held sink.old) (K.held sink.new)
         (Rose (S.faults source.old) (S.faults source.new) ⊎ Rose (K.faults sink.old) (K.faults sink.new))
-        (asks_census (spec.options (map (λ w. w.now) words.now))) h.new result }
+        (asks_census (spec.options (map (λ w. w.now) words.now)))
+        (map shape_of rules.old.items) h.new result }
 {
     match options(words) {
-        Some(running) => run(rt, alloc, running, source, sink, gate, h),
+        Some(running) => run(rt, alloc, running, source, sink, rules, gate, h),
         None => {
             write_usage(sink);
             Status::Usage

@@ -17,8 +17,10 @@ use Rattle.cow_model.specs.declared.shape.Shape.{Shape}
 use Rattle.cow_model.specs.declared.statement.Statement.{Statement, out-Statement}
 use Rattle.cow_model.specs.declared.statement.Statement.TheOpen.{Statement-F}
 use Rattle.cow_model.proofs.Within.{least_allowed}
+use Rattle.cow_views.specs.Asks.{asks_layer, asks_from, raised_by}
 use Rattle.cow_eval.specs.Entries.{SeenEntry}
 use Rattle.cow_eval.specs.Envs.{Balances}
+use Rattle.cow_eval.proofs.Asking.{raised-none}
 use Rattle.cow_tasks.specs.Blocks.{count_in, count_of, has_fork, is_fork, stays_of}
 use Rattle.cow_tasks.proofs.Growth.{grows_within}
 
@@ -70,6 +72,11 @@ pub stays-grows : (s : Layer) (out : Outcome) (said said' : Text) → stays_of s
 stays-grows (Statement-F.Fork l tasks) out said said' g = g
 stays-grows s out said said' same = record { added = []; front = (out.text, refl); grown = same ∙ sym (append-nil said) }
 
+-- where no statement is left no rule is asked any more
+pub asked-end : (env : Environment) (shapes : List Shape) (rest : List Statement) → rest ≡ [] → (asked whole : List ℕ) → raised_by (λ k. asks_from env shapes k rest) asked ≡ whole → asked ≡ whole
+asked-end env shapes rest none asked whole told =
+    sym (raised-none (λ k. asks_from env shapes k []) (λ k. refl) asked) ∙ (ap (λ r. raised_by (λ k. asks_from env shapes k r) asked) (sym none) ∙ told)
+
 pub or-left : (a b : Bool) → a ≡ true → (a || b) ≡ true
 or-left a b e = rw e refl
 
@@ -77,26 +84,30 @@ pub or-right : (a b : Bool) → b ≡ true → (a || b) ≡ true
 or-right true b e = refl
 or-right false b e = e
 
-module _ (before : Environment) (block : List Statement) (i : ℕ) (s : Statement) (within : i < length block) (is : s ≡ get_or block i s) where
+module _ (before : Environment) (shapes : List Shape) (block : List Statement) (i : ℕ) (s : Statement) (within : i < length block) (is : s ≡ get_or block i s) where
   at-next : {X : Type 0} (f : List Statement → X) → f (s ∷ drop (i + 1) block) ≡ f (drop i block)
   at-next f = ap (λ x. f (x ∷ drop (i + 1) block)) is ∙ sym (at_drop_more f block i s within)
 
-  pub env-next : env_after (run_one before [] s).env [] (drop (i + 1) block) ≡ env_after before [] (drop i block)
-  env-next = at-next (env_after before [])
+  pub env-next : env_after (run_one before shapes s).env shapes (drop (i + 1) block) ≡ env_after before shapes (drop i block)
+  env-next = at-next (env_after before shapes)
 
-  pub text-next : (run_one before [] s).text ++ text_from (run_one before [] s).env [] (drop (i + 1) block) ≡ text_from before [] (drop i block)
-  text-next = at-next (text_from before [])
+  pub text-next : (run_one before shapes s).text ++ text_from (run_one before shapes s).env shapes (drop (i + 1) block) ≡ text_from before shapes (drop i block)
+  text-next = at-next (text_from before shapes)
 
-  pub least-next : least_layer before (out-Statement s) + least_from (run_one before [] s).env [] (drop (i + 1) block) ≡ least_from before [] (drop i block)
-  least-next = at-next (least_from before [])
+  pub least-next : least_layer before (out-Statement s) + least_from (run_one before shapes s).env shapes (drop (i + 1) block) ≡ least_from before shapes (drop i block)
+  least-next = at-next (least_from before shapes)
+
+  -- how often rules have been asked once the others are done
+  pub asks-next : (asked : List ℕ) → raised_by (λ k. asks_layer before shapes k (out-Statement s) + asks_from (run_one before shapes s).env shapes k (drop (i + 1) block)) asked ≡ raised_by (λ k. asks_from before shapes k (drop i block)) asked
+  asks-next asked = at-next (λ ss. raised_by (λ k. asks_from before shapes k ss) asked)
 
   -- what holds of all statements holds of this one
   pub of-this : (P : Statement → Type 0) → All P block → P s
   of-this P all = subst P (sym is) (All-get_or P block i s within all)
 
   -- what is allowed after this statement is allowed after all
-  pub most-next : (run_one before [] s).env.allowed ≤ (env_after before [] (drop i block)).allowed
-  most-next = let rises = block-rises (run_one before [] s).env [] (drop (i + 1) block) in let next = ap (λ e. e.allowed) env-next in omega (arith, rises, next)
+  pub most-next : (run_one before shapes s).env.allowed ≤ (env_after before shapes (drop i block)).allowed
+  most-next = let rises = block-rises (run_one before shapes s).env shapes (drop (i + 1) block) in let next = ap (λ e. e.allowed) env-next in omega (arith, rises, next)
 
   -- how many statements are left
   pub count-next : count_of (out-Statement s) + count_in (drop (i + 1) block) ≡ count_in (drop i block)

@@ -1,3 +1,4 @@
+pub mod Apart
 pub mod Blocks
 pub mod CaptureLists
 pub mod Capturing
@@ -6,9 +7,11 @@ pub mod Forking
 pub mod Giving
 pub mod Growth
 pub mod Joining
+pub mod Lent
 pub mod Lists
 pub mod Making
 pub mod Names
 pub mod ReadTasks
+pub mod Statements
 pub mod TaskRuns
 pub mod Unbuilt

@@ -6,6 +6,9 @@ use Rattle.std.proofs.lemmas.Bool.{ltb-true}
 use Rattle.std.proofs.lemmas.List.Elements.{All-nil, All-cons, All-weaker}
 use Rattle.std.proofs.lemmas.List.Splits.{length-slice_split}
 use Rattle.std.proofs.lemmas.Result.{IfOk-at_ok, IfOk-weaker}
+use Rattle.cow_model.specs.Atoms.{FitsTexts}
+use Rattle.cow_model.specs.Plain.{max_count}
+use Rattle.cow_model.specs.Sharing.{Layer, literals}
 use Rattle.cow_model.specs.declared.fault.Flaw.{Flaw}
 use Rattle.cow_model.specs.declared.fault.Flaw.TheVariants as flaw
 use Rattle.cow_model.specs.declared.fault.ParseFault.{ParseFault}
@@ -20,6 +23,7 @@ use Rattle.cow_model.specs.declared.statement.Capture.{Capture}
 use Rattle.cow_model.specs.declared.statement.Kind.{Kind}
 use Rattle.cow_model.specs.declared.statement.Side.{Side}
 use Rattle.cow_model.specs.declared.statement.Statement.{Statement, out-Statement}
+use Rattle.cow_model.specs.declared.statement.Statement.TheOpen.{Statement-F}
 use Rattle.cow_model.specs.declared.statement.Statement.TheVariants as statement
 use Rattle.cow_model.specs.declared.statement.Statement.TheViews
 use Rattle.cow_model.specs.declared.statement.TaskBlock.{TaskBlock}
@@ -48,7 +52,7 @@ use Rattle.cow_model.proofs.ListSteps.{All-push}
 use Rattle.cow_model.proofs.ReadForms.{Fits, reads_statement}
 use Rattle.cow_model.proofs.ReadSteps.{Reads, and_then_if, and_then_any, either_if, reads_any, reads_either, reads_next, where_if}
 use Rattle.cow_eval.specs.Statements.{IsRunnable}
-use Rattle.cow_tasks.specs.Blocks.{statements_in, captures_in, tasks_in, count_tasks, count_captures, count_in, unbuilt_line, AreRunnable, IsBuilt, IsBuiltStep, IsRunnableLayer}
+use Rattle.cow_tasks.specs.Blocks.{IsBuiltAlone, IsRunnableAlone, statements_in, captures_in, tasks_in, count_tasks, count_captures, count_in, unbuilt_line, AreRunnable, IsBuilt, IsBuiltStep, IsRunnableLayer}
 use Rattle.cow_tasks.proofs.Lists.{All-unpush}
 use Rattle.cow_tasks.proofs.Unbuilt.{all-built}
 
@@ -552,11 +556,16 @@ runnable_tasks bytes ss is small built = λ k d h.
       captures = few_captures bytes ss is small k d h;
     }
 
+-- a statement of the main block
+runnable_alone : (s : Layer) → IsBuiltAlone s → FitsTexts s → literals s ≤ max_count → IsRunnableAlone s
+runnable_alone (Statement-F.Lazy l n i asked) built texts few = _
+runnable_alone s built texts few = record { built = built; texts = texts; few = few }
+
 -- where no line is told as not built, all statements of a script of at most 1,048,576 bytes can be run
 pub is_runnable : (bytes : Text) (ss : List Statement) → script_of bytes ≡ Ok ss → length bytes ≤ 1048576 → unbuilt_line ss ≡ None → All (λ s. IsRunnableLayer (out-Statement s)) ss
 is_runnable bytes ss is small none =
     let built = all-built ss none in
     λ k d h. record {
-      itself = record { built = (built k d h).0; texts = fits_texts bytes ss is k d h; few = few_literals bytes ss is k d h };
+      itself = runnable_alone (out-Statement (get_or ss k d)) (built k d h).0 (fits_texts bytes ss is k d h) (few_literals bytes ss is k d h);
       tasks = runnable_tasks bytes ss is small built k d h;
     }

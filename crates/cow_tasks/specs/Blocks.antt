@@ -10,6 +10,7 @@ use Rattle.cow_model.specs.declared.memory.NoMemory.{NoMemory}
 use Rattle.cow_model.specs.declared.outcome.Environment.{Environment}
 use Rattle.cow_model.specs.declared.outcome.Outcome.{Outcome}
 use Rattle.cow_model.specs.declared.plain.Literal.{Literal}
+use Rattle.cow_model.specs.declared.shape.Shape.{Shape}
 use Rattle.cow_model.specs.declared.statement.Statement.{Statement, out-Statement}
 use Rattle.cow_model.specs.declared.statement.Statement.TheOpen.{Statement-F}
 use Rattle.cow_model.specs.declared.statement.TaskBlock.{TaskBlock, out-TaskBlock}
@@ -74,9 +75,14 @@ pub record AreRunnable (tasks : List TaskBlock) : Type 0 where
   pub few : length tasks ≤ 16
   pub captures : count_captures tasks ≤ 2 ^ 21
 
+-- a statement can be run, beside its tasks: a lazy one always
+abbrev pub IsRunnableAlone : Layer → Type 0
+IsRunnableAlone (Statement-F.Lazy l n i verb) = ⊤
+IsRunnableAlone s = IsRunnable s
+
 -- a statement of the main block of a script that can be run
 pub record IsRunnableLayer (s : Layer) : Type 0 where
-  pub itself : IsRunnable s
+  pub itself : IsRunnableAlone s
   pub tasks : AreRunnable (tasks_in s)
 
 -- the tasks of a fork of n statements in all have the units for all of them each, and so has their parent
@@ -101,9 +107,9 @@ abbrev pub stays_of : Layer → Outcome → Text → Text → Type 0
 stays_of (Statement-F.Fork l tasks) outcome said said' = GrowsWithin said said' outcome.text
 stays_of s outcome said said' = said' ≡ said
 
--- what statements in turn leave and print
-abbrev pub outcome_of : Environment → List Statement → Outcome
-outcome_of env ss = record { env = env_after env [] ss; text = text_from env [] ss }
+-- what statements in turn leave and print, with rules of these shapes
+abbrev pub outcome_of : Environment → List Shape → List Statement → Outcome
+outcome_of env shapes ss = record { env = env_after env shapes ss; text = text_from env shapes ss }
 
 -- ---- the first line that isn't built
 
@@ -117,8 +123,9 @@ abbrev pub unbuilt_in_tasks : List TaskBlock → Option ℕ
 unbuilt_in_tasks [] = None
 unbuilt_in_tasks (t ∷ ts) = option_or (unbuilt_in_task (statements_in t)) (unbuilt_in_tasks ts)
 
--- a statement's own, or that of its tasks
+-- a statement's own, or that of its tasks; a lazy statement stands outside of forks, and there it is built
 abbrev pub unbuilt_in : Layer → Option ℕ
+unbuilt_in (Statement-F.Lazy l n i verb) = None
 unbuilt_in s = option_or (unbuilt_at s) (unbuilt_in_tasks (tasks_in s))
 
 -- the line of the first statement that isn't built
@@ -134,6 +141,11 @@ IsBuiltStep s = is_built (out-Statement s) ≡ true
 abbrev pub IsBuiltTask : TaskBlock → Type 0
 IsBuiltTask t = All IsBuiltStep (statements_in t)
 
+-- a statement is built, beside its tasks
+abbrev pub IsBuiltAlone : Layer → Type 0
+IsBuiltAlone (Statement-F.Lazy l n i verb) = ⊤
+IsBuiltAlone s = is_built s ≡ true
+
 -- a statement is built, and its tasks are
 abbrev pub IsBuilt : Statement → Type 0
-IsBuilt s = IsBuiltStep s × All IsBuiltTask (tasks_in (out-Statement s))
+IsBuilt s = IsBuiltAlone (out-Statement s) × All IsBuiltTask (tasks_in (out-Statement s))

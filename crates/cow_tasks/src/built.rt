@@ -32,12 +32,14 @@ fn first_in_tasks(tasks: &[TaskBlock]) -> Option<u64>
     None
 }
 
-// The line of a statement that isn't built, or of the first one in its tasks.
+// The line of a statement that isn't built, or of the first one in its tasks. Lazy statements, which stand outside of
+// forks, are built there.
 fn first_in(statement: &Statement) -> Option<u64>
     ensures { result ≡ spec.unbuilt_in (out-Statement statement.now) }
 {
     match statement {
         Statement::Fork { tasks, .. } => first_in_tasks(tasks.as_slice()),
+        Statement::Lazy { .. } => None,
         _ => unbuilt_line(statement),
     }
 }

@@ -8,7 +8,9 @@ ghost use Rattle.cow_cell.specs.Opens.{Opens};
 
 use cow_cell::{Holder, Opening, Stock};
 use cow_crew::OpenGate;
+use cow_model::Shape;
 use cow_port::{ReaderSource, Sink, Source, WriterSink};
+use cow_rule::{PlainRule, Rule};
 use cow_run::{Status, cowrun};
 use std::alloc::{AllocError, Global};
 use std::marker::Brand;
@@ -35,6 +37,15 @@ fn as_strs(alloc: Global, words: &[String]) -> Result<Vec<&str>, AllocError> {
     words.iter().map(|word| word.as_str()).collect(alloc)
 }
 
+/// What the five rules that lazy statements name do, in the order of their numbers.
+const SHAPES: [Shape; 5] = [
+    Shape::Add(1),
+    Shape::Negate,
+    Shape::Add(10),
+    Shape::Even,
+    Shape::Below(100),
+];
+
 // Runs over the stock that is opened.
 fn run_words<R: Threads + Sync, Q: Stock + Send + Sync, S: Source, K: Sink>(
     rt: &R,
@@ -42,12 +53,13 @@ fn run_words<R: Threads + Sync, Q: Stock + Send + Sync, S: Source, K: Sink>(
     words: &[&str],
     source: &mut S,
     sink: &mut K,
+    rules: &mut Vec<Box<dyn Rule>>,
     opening: Opening,
 ) -> Status
     requires { Opens Q.Stock opening }
 {
     let mut h = Holder::<Q>::fresh(opening);
-    cowrun(rt, alloc, words, source, sink, &OpenGate, &mut h)
+    cowrun(rt, alloc, words, source, sink, rules, &OpenGate, &mut h)
 }
 
 fn main(rt: HostRuntime) -> ExitCode {
@@ -58,6 +70,15 @@ fn main(rt: HostRuntime) -> ExitCode {
     let Ok(words) = as_strs(alloc, &given) else {
         return ExitCode::from(Status::NoMemory);
     };
+    let mut rules: Vec<Box<dyn Rule>> = Vec::new(alloc);
+    for shape in SHAPES {
+        let Ok(rule) = Box::new(alloc, PlainRule { shape, asked: 0 }) else {
+            return ExitCode::from(Status::NoMemory);
+        };
+        if rules.push(rule).is_err() {
+            return ExitCode::from(Status::NoMemory);
+        }
+    }
     let mut source = ReaderSource {
         reader: rt.reader(),
         faults: 0,
@@ -67,6 +88,14 @@ fn main(rt: HostRuntime) -> ExitCode {
         faults: 0,
     };
     let opening = Opening::new();
-    let status = run_words::<_, Brand, _, _>(&rt, alloc, &words, &mut source, &mut sink, opening);
+    let status = run_words::<_, Brand, _, _>(
+        &rt,
+        alloc,
+        &words,
+        &mut source,
+        &mut sink,
+        &mut rules,
+        opening,
+    );
     ExitCode::from(status)
 }

@@ -1,6 +1,6 @@
 //! Tests of the top call, by public names: what it prints and how it ends, beside the definitions as they run.
 //!
-//! `program`, `random`, `fork_rows` and `forks` are for `cow_run`, `yardstick` is for `cow_plain`; `lines`
+//! `program`, `random`, `fork_rows`, `forks` and `lazy_rows` are for `cow_run`, `yardstick` is for `cow_plain`; `lines`
 //! and `numbers` write scripts. Nothing stands above this crate.
 #![tactic(auto)]
 
@@ -8,6 +8,8 @@
 mod fork_rows;
 #[cfg(test)]
 mod forks;
+#[cfg(test)]
+mod lazy_rows;
 #[cfg(test)]
 mod lines;
 #[cfg(test)]

@@ -1,7 +1,8 @@
 //! Random lines of scripts, over the statements that are built.
 use std::alloc::AllocError;
 
-/// The forms of a line: N is a name, A an atom, K a key, L some atoms, P a position, and E an end.
+/// The forms of a line: N is a name, A an atom, K a key, L some atoms, P a position, E an end, R a rule, and V what is
+/// asked of a view.
 const LISTS: &[&str] = &[
     "let N = array L",
     "let N = array L A A",
@@ -269,6 +270,10 @@ const PLACES: &[&str] = &["0", "0", "1", "1", "2", "3", "5", "-1"];
 
 const ENDS: &[&str] = &["first", "first", "last", "last", "min"];
 
+const RULES: &[&str] = &["0", "1", "2", "3", "3", "4", "5", "-1"];
+
+const VERBS: &[&str] = &["first", "show", "count"];
+
 /// A sequence of numbers that its first number tells, and the forms of its lines.
 #[derive(Drop)]
 pub struct Numbers {
@@ -319,6 +324,8 @@ impl Numbers {
                 b'K' => script.extend_from_slice(self.one_of(KEYS).as_bytes())?,
                 b'P' => script.extend_from_slice(self.one_of(PLACES).as_bytes())?,
                 b'E' => script.extend_from_slice(self.one_of(ENDS).as_bytes())?,
+                b'R' => script.extend_from_slice(self.one_of(RULES).as_bytes())?,
+                b'V' => script.extend_from_slice(self.one_of(VERBS).as_bytes())?,
                 b'L' => self.atoms(script)?,
                 other => script.push(*other)?,
             }

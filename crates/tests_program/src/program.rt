@@ -2,10 +2,12 @@
 ghost use Rattle.cow_cell.specs.Opens.{Opens};
 
 use crate::lines::lines;
+use crate::yardstick::RULES;
 use cow_cell::{Holder, Opening, Stock};
 use cow_crew::{Gate, OpenGate};
 use cow_plain::run_script;
 use cow_port::{MemorySink, MemorySource, PlainSource, Sink, Source};
+use cow_rule::{PlainRule, Rule};
 use cow_run::{Status, cowrun};
 use cow_script::ParseFault;
 use std::alloc::Global;
@@ -15,11 +17,12 @@ use std::thread::Threads;
 
 const USAGE: &[u8] = b"usage: cowrun run [--workers w] [--census] | make SEED N | judge\n";
 
-/// How a run ended, and how many items were copied with its holder.
+/// How a run ended, how many items were copied with its holder, and how often each of its rules was asked.
 #[derive(Clone, Copy, Debug, PartialEq, Eq)]
 pub struct Ended {
     pub status: Status,
     pub copied: u64,
+    pub asked: [u64; 5],
 }
 
 /// How a run ended, and what it wrote.
@@ -29,7 +32,7 @@ pub struct Ran {
     pub text: Vec<u8>,
 }
 
-/// Runs over a new stock.
+/// Runs over a new stock, with the five rules of the program.
 fn run_over<R: Threads + Sync, Q: Stock + Send + Sync, S: Source, K: Sink, G: Gate>(
     rt: &R,
     alloc: Global,
@@ -42,10 +45,24 @@ fn run_over<R: Threads + Sync, Q: Stock + Send + Sync, S: Source, K: Sink, G: Ga
     requires { Opens Q.Stock opening }
 {
     let mut h = Holder::<Q>::fresh(opening);
-    let status = cowrun(rt, alloc, words, source, sink, gate, &mut h);
+    let mut rules: Vec<Box<dyn Rule>> = Vec::new(alloc);
+    let mut asked = [0; 5];
+    for shape in RULES {
+        let Ok(rule) = Box::new(alloc, PlainRule { shape, asked: 0 }) else {
+            break;
+        };
+        if rules.push(rule).is_err() {
+            break;
+        }
+    }
+    let status = cowrun(rt, alloc, words, source, sink, &mut rules, gate, &mut h);
+    for (number, rule) in asked.iter_mut().zip(rules.iter()) {
+        *number = rule.asked();
+    }
     Ended {
         status,
         copied: h.copied(),
+        asked,
     }
 }
 
@@ -106,7 +123,7 @@ pub fn run_with<R: Threads + Sync>(
 /// aren't built.
 fn is_as_defined<R: Threads + Sync>(rt: &R, alloc: Global, script: &[u8]) -> Result<bool, Fail> {
     let ran = run_with(rt, alloc, &["run"], script)?;
-    let Ok(said) = run_script(alloc, script, &[]) else {
+    let Ok(said) = run_script(alloc, script, &RULES) else {
         return Err("memory".into());
     };
     Ok(match (ran.ended.status, said) {
@@ -310,7 +327,7 @@ const ROWS: &[(&[&str], &str, &str, u8)] = &[
     (
         CENSUS,
         "let a = array 1 / show a / lazy a 0 show / let t = tdict 1 2",
-        "line 3: not built",
+        "line 4: not built",
         9,
     ),
     // a fault comes before a line that isn't built

@@ -1,6 +1,7 @@
 // Random scripts over the statements that are built, against the plain program of the definitions.
 use crate::numbers::Numbers;
 use crate::program::{CENSUS, Ended, Ran, run_with};
+use crate::yardstick::RULES;
 use cow_plain::{Told, run_script};
 use cow_run::Status;
 use std::alloc::{AllocError, Global};
@@ -12,12 +13,19 @@ const SCRIPTS: u64 = 500;
 
 const LINES: u64 = 24;
 
-/// The script of a seed.
+/// A line outside of forks alone.
+const VIEW: &str = "lazy N R V\n";
+
+/// The script of a seed. One line in eight is a lazy statement.
 fn script_of(alloc: Global, seed: u64) -> Result<Vec<u8>, AllocError> {
     let mut numbers = Numbers::of(seed);
     let mut script = Vec::new(alloc);
     for _ in 0..LINES {
-        numbers.line(&mut script)?;
+        if numbers.next() % 8 == 0 {
+            numbers.put(VIEW, &mut script)?;
+        } else {
+            numbers.line(&mut script)?;
+        }
     }
     Ok(script)
 }
@@ -40,7 +48,7 @@ pub fn is_as_told<R: Threads + Sync>(
     told: &Told,
 ) -> Result<bool, Fail> {
     let Ran { ended, text } = run_with(rt, alloc, words, script)?;
-    let Ended { status, copied } = ended;
+    let Ended { status, copied, .. } = ended;
     let is_within = told.least <= copied && copied <= told.bound;
     let wanted = text_of(alloc, told, copied)?;
     Ok(status == Status::Ok && is_within && text.as_slice() == wanted.as_slice())
@@ -49,7 +57,7 @@ pub fn is_as_told<R: Threads + Sync>(
 /// Whether the script of a seed is run as the definitions say.
 fn is_as_defined<R: Threads + Sync>(rt: &R, alloc: Global, seed: u64) -> Result<bool, Fail> {
     let script = script_of(alloc, seed)?;
-    let Ok(Ok(told)) = run_script(alloc, script.as_slice(), &[]) else {
+    let Ok(Ok(told)) = run_script(alloc, script.as_slice(), &RULES) else {
         return Err("no script, or no memory".into());
     };
     is_as_told(rt, alloc, CENSUS, script.as_slice(), &told)

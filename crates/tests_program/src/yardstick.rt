@@ -5,8 +5,8 @@ use cow_plain::{Told, run_script};
 use std::alloc::Global;
 use std::test::Fail;
 
-// The five rules of the program.
-const RULES: [Shape; 5] = [
+/// The five rules of the program.
+pub const RULES: [Shape; 5] = [
     Shape::Add(1),
     Shape::Negate,
     Shape::Add(10),

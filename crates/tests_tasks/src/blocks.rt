@@ -41,8 +41,9 @@ fn text_of<R: Threads + Sync, Q: Stock + Send + Sync>(
     let mut env = Env::<Value<Atom<Q>, Q>, Q>::new(alloc);
     let mut text = Vec::new(alloc);
     let block = script.statements.as_slice();
+    let mut rules = Vec::new(alloc);
     let ran = run_block(
-        rt, alloc, block, &mut env, &OpenGate, workers, &mut h, &mut text,
+        rt, alloc, block, &mut env, &mut rules, &OpenGate, workers, &mut h, &mut text,
     );
     env.end(&mut h);
     ran.ok()?;

@@ -20,4 +20,4 @@ returns-in-Err-TooLong-clause-answer g c =
 pub returns-in-Ok-clause-answer : goal.returns-in-Ok-clause-answer
 returns-in-Ok-clause-answer g c =
     let whole = c.in-Ok.ensures.whole in
-    run_answers _ _ _ _ _ _ _ _ _ _ c.deref.ensures.value whole.consumed whole.at_end c.run_bytes.ensures.usage c.run_bytes.ensures.read_fault c.run_bytes.ensures.answer
+    run_answers _ _ _ _ _ _ _ _ _ _ _ c.deref.ensures.value whole.consumed whole.at_end c.run_bytes.ensures.usage c.run_bytes.ensures.read_fault c.run_bytes.ensures.answer
