@@ -21,6 +21,7 @@
 //!
 //! - `Level`: the calls, each with one contract for all levels. Contracts speak of a node's `shape` and its `pairs`,
 //!   of `copied` and of spare, and of no bit map, row or handle.
+//! - The fields of nodes, which only `cow_trim` reads and changes; it keeps nodes whole.
 //! - `Task`, `over_levels`: tries of seven branches over a collision node. Whatever works on tries is generic in the
 //!   root's type; that type is made in `stack` alone, a level at a time, since a function that names a stack of levels
 //!   costs the check the more, the more levels it names.
@@ -53,4 +54,5 @@ mod walks;
 pub use branch::Branch;
 pub use collide::Collide;
 pub use level::Level;
+pub use rows::Entry;
 pub use stack::{Task, over_levels};

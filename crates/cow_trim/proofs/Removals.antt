@@ -1,5 +1,5 @@
 -- A key goes: what is left of a canonical node.
-use Rattle.std.proofs.Common.{◌≡◌, ◌≢◌, ℕ, zero, suc, ◌+◌, ◌<◌, ◌≤◌, Bool, true, false, cond, not, ◌&&◌, List, [], ◌∷◌, inl, inr, length, get_or, refl, sym, ap, ◌∙◌, arith, subst, ne_eqb, eqb-true}
+use Rattle.std.proofs.Common.{◌≡◌, ◌≢◌, ℕ, zero, suc, ◌+◌, ◌<◌, ◌≤◌, true, false, cond, not, ◌&&◌, List, [], ◌∷◌, inl, inr, length, get_or, refl, sym, ap, ◌∙◌, arith, subst, eqb-true}
 use Rattle.std.specs.List.{filter, remove}
 use Rattle.std.proofs.lemmas.Bool.{cases_Bool, cases_eq}
 use mathlib.Core.Path.{fun_ext}
@@ -9,7 +9,7 @@ use Rattle.cow_model.specs.Canon.{count_where, is_one, has_key, IsDistinct, Tree
 use Rattle.cow_model.proofs.CanonCounts.{count-filter, filter_all, filter-filter, count_never}
 use Rattle.cow_model.proofs.CanonOrder.{eq_means, IsAscending, IsAscending-ascending, IsAscending-filter, ascending_fixed}
 use Rattle.cow_model.proofs.CanonShapes.{digit-lt, at_digit, slot_two}
-use Rattle.cow_model.proofs.CanonSlots.{slot_pairs-child, slot_pairs-entry, count-filter-le, canon-branch, at_is, group_is}
+use Rattle.cow_model.proofs.CanonSlots.{slot_pairs-child, count-filter-le, canon-branch, at_is, group_is}
 
 -- ---- the pairs without a key
 pub without_none : (k : Literal) (ps : List Pair) → count_where (has_key k) ps ≡ 0 → without k ps ≡ ps
@@ -116,3 +116,8 @@ module _ (hash_of : Literal → ℕ) (k : Literal) (ps : List Pair) (c : IsCanon
   pub collided_cut : (i : ℕ) → i < length ps → ((x : Pair) → is_one (get_or ps i x).key k ≡ true) → collide (remove ps i) ≡ canon hash_of (without k (pairs (collide ps))) 7
   unfolding pairs
   collided_cut i l f = ap collide (removed k ps i l (c.distinct k) f) ∙ sym canon_without
+
+pub single : {X : Type 0} (xs : List X) (x : X) → length xs ≡ 1 → x ≡ get_or xs 0 x → xs ≡ x ∷ []
+single [] x n e = absurd (omega (arith, n))
+single (y ∷ []) x n e = ap (λ z. z ∷ []) (sym e)
+single (y ∷ (z ∷ xs)) x n e = absurd (omega (arith, n))

@@ -1,13 +1,10 @@
 //! Removal of keys from the nodes of a trie: what is left is canonical again.
+//!
+//! A collision node closes up. A branch gives a key up by its digit; a child of which one pair is left gives that pair to
+//! the branch, which has it as an entry then, so no chain of nodes leads to a single pair.
 #![tactic(auto)]
 
-/// What became of a key that was to go.
-#[derive(Drop)]
-pub enum Cut<K, V> {
-    /// It wasn't there, and nothing changed.
-    Absent,
-    /// It went with its value.
-    Gone { gone: (K, V) },
-    /// It went, and one other pair was left, which the parent takes: the node is empty.
-    One { gone: (K, V), left: (K, V) },
-}
+mod collide;
+mod trim;
+
+pub use trim::{Cut, Trim};
