@@ -23,6 +23,7 @@
 //!   of `copied` and of spare, and of no bit map, row or handle.
 //! - `Branch` and `Collide`, to put levels on one another. Whatever works on tries is generic in the root's type;
 //!   `cow_levels` makes that type.
+//! - The fields of nodes, which only `cow_trim` reads and changes; it keeps nodes whole.
 //!
 //! | module | what it has |
 //! |---|---|
@@ -50,3 +51,4 @@ mod walks;
 pub use branch::Branch;
 pub use collide::Collide;
 pub use level::Level;
+pub use rows::Entry;
