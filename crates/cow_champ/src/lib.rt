@@ -23,7 +23,7 @@
 //!   of `copied` and of spare, and of no bit map, row or handle.
 //! - `Branch` and `Collide`, to put levels on one another. Whatever works on tries is generic in the root's type;
 //!   `cow_levels` makes that type.
-//! - The fields of nodes, which only `cow_trim` reads and changes; it keeps nodes whole.
+//! - The fields of nodes, `bits` and `branch::add`, for `cow_trim` alone: it takes keys out, and keeps nodes whole.
 //!
 //! | module | what it has |
 //! |---|---|
@@ -39,8 +39,8 @@
 //!   it copies nothing where nobody else holds the trie.
 #![tactic(auto)]
 
-mod bits;
-mod branch;
+pub mod bits;
+pub mod branch;
 mod collide;
 mod groups;
 mod keys;
