@@ -27,6 +27,10 @@ impl<K: Key<Q>, V: Item<Q>, Q: Stock> Trim<K, V, Q> for Collide<K, V> {
         }
     }
 
+    fn is_small(&self) -> bool {
+        self.entries.len() <= 2
+    }
+
     fn take_only(&mut self) -> Option<(K, V)> {
         if self.entries.len() != 1 {
             return None;
