@@ -5,7 +5,7 @@ ghost use Rattle.cow_model.specs.Canon.{digit};
 ghost use Rattle.cow_model.specs.Slots.{rank};
 
 /// The five bits of a hash that a level looks at; of the last level there are two.
-pub(crate) fn digit_of(hash: u32, level: u32) -> u32
+pub fn digit_of(hash: u32, level: u32) -> u32
     requires { level < 7 }
     ensures digit { result ≡ digit hash level }
     ensures small { result < 32 }
@@ -14,7 +14,7 @@ pub(crate) fn digit_of(hash: u32, level: u32) -> u32
 }
 
 /// Whether a digit is a member.
-pub(crate) fn has(map: u32, d: u32) -> bool
+pub fn has(map: u32, d: u32) -> bool
     requires { d < 32 }
     ensures { result ≡ (bit_at map d == 1) }
 {
@@ -22,7 +22,7 @@ pub(crate) fn has(map: u32, d: u32) -> bool
 }
 
 /// How many members are below a digit: the place in a dense row of what stands at the digit.
-pub(crate) fn place(map: u32, d: u32) -> usize
+pub fn place(map: u32, d: u32) -> usize
     requires { d < 32 }
     ensures { result ≡ rank map d }
 {
@@ -30,7 +30,7 @@ pub(crate) fn place(map: u32, d: u32) -> usize
 }
 
 /// The set with a member more.
-pub(crate) fn with_member(map: u32, d: u32) -> u32
+pub fn with_member(map: u32, d: u32) -> u32
     requires { d < 32 }
     ensures same { bit_at result d ≡ 1 }
     ensures others { (e : ℕ) → e ≢ d → bit_at result e ≡ bit_at map e }
@@ -39,7 +39,7 @@ pub(crate) fn with_member(map: u32, d: u32) -> u32
 }
 
 /// The set with a member fewer.
-pub(crate) fn without_member(map: u32, d: u32) -> u32
+pub fn without_member(map: u32, d: u32) -> u32
     requires { d < 32 }
     ensures same { bit_at result d ≡ 0 }
     ensures others { (e : ℕ) → e ≢ d → bit_at result e ≡ bit_at map e }

@@ -23,6 +23,7 @@
 //!   of `copied` and of spare, and of no bit map, row or handle.
 //! - `Branch` and `Collide`, to put levels on one another. Whatever works on tries is generic in the root's type;
 //!   `cow_levels` makes that type.
+//! - The fields of nodes, `bits` and `branch::add`, for `cow_trim` alone: it takes keys out, and keeps nodes whole.
 //!
 //! | module | what it has |
 //! |---|---|
@@ -38,8 +39,8 @@
 //!   it copies nothing where nobody else holds the trie.
 #![tactic(auto)]
 
-mod bits;
-mod branch;
+pub mod bits;
+pub mod branch;
 mod collide;
 mod groups;
 mod keys;
@@ -50,3 +51,4 @@ mod walks;
 pub use branch::Branch;
 pub use collide::Collide;
 pub use level::Level;
+pub use rows::Entry;

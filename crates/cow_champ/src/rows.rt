@@ -11,8 +11,8 @@ use std::alloc::Global;
 /// A key with its value, as a node keeps them.
 #[derive(Drop)]
 pub struct Entry<K, V> {
-    pub(crate) key: K,
-    pub(crate) value: V,
+    pub key: K,
+    pub value: V,
 }
 
 /// An entry whose items are settled.

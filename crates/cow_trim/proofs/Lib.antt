@@ -1,0 +1,5 @@
+pub mod Alone
+pub mod Below
+pub mod Leavings
+pub mod Removals
+pub mod Withdrawn
