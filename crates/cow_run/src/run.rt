@@ -250,9 +250,7 @@ fn run_values<
         Rose (K.faults sink.old) (K.faults sink.new) }
     ensures later { K.faults sink.old ≤ K.faults sink.new }
 {
-    run_script::<R, Value<T, Q>, Q, K, G>(
-        rt, alloc, statements, running, sink, rules, gate, h,
-    )
+    run_script::<R, Value<T, Q>, Q, K, G>(rt, alloc, statements, running, sink, rules, gate, h)
 }
 
 // How a run ends that wrote all: whether all units came back.
@@ -295,9 +293,7 @@ fn run_built<R: Threads + Sync, Q: Stock + Send + Sync, K: Sink, G: Gate>(
         return Status::NotYet { line };
     }
     let statements = script.statements.as_slice();
-    match run_values::<R, Atom<Q>, Q, K, G>(
-        rt, alloc, statements, running, sink, rules, gate, h,
-    ) {
+    match run_values::<R, Atom<Q>, Q, K, G>(rt, alloc, statements, running, sink, rules, gate, h) {
         Ok(()) => counted(h),
         Err(RunStop::WriteFault) => Status::WriteFault,
         Err(RunStop::NoMemory) => Status::NoMemory,
