@@ -9,11 +9,12 @@
 ghost use Rattle.std.specs.Prelude.{◌≡◌, ℕ};
 
 use cow_cell::Stock;
-use cow_champ::{Branch, Collide, Level};
+use cow_champ::{Branch, Collide};
 use cow_item::{Item, Key};
+use cow_trim::Trim;
 
-/// What is done with tries whose root is of any level type. `over_levels` runs it with seven branches over a collision
-/// node; no trie comes in or out, so it makes its own.
+/// What is done with tries whose root is of any level type, of which keys can be removed too. `over_levels` runs it with
+/// seven branches over a collision node; no trie comes in or out, so it makes its own.
 pub trait Task<K: Key<Q>, V: Item<Q>, Q: Stock>: Sized + Drop {
     type Out;
 
@@ -23,7 +24,7 @@ pub trait Task<K: Key<Q>, V: Item<Q>, Q: Stock>: Sized + Drop {
     /// What it answers.
     ghost Gives: { Self → Self.Out → Type 0 };
 
-    fn run<C: Level<K, V, Q> + Send + Sync>(self) -> Self::Out
+    fn run<C: Trim<K, V, Q> + Send + Sync>(self) -> Self::Out
         requires root { C.LEVEL ≡ 0 }
         requires stacked { C.Stacked }
         requires takes { Takes self }
@@ -48,7 +49,7 @@ fn over_6<
     K: Key<Q> + Send + Sync,
     V: Item<Q> + Send + Sync,
     Q: Stock + Send + Sync,
-    C: Level<K, V, Q> + Send + Sync,
+    C: Trim<K, V, Q> + Send + Sync,
     T: Task<K, V, Q>,
 >(task: T) -> T::Out
     requires above { C.LEVEL ≡ 7 }
@@ -64,7 +65,7 @@ fn over_5<
     K: Key<Q> + Send + Sync,
     V: Item<Q> + Send + Sync,
     Q: Stock + Send + Sync,
-    C: Level<K, V, Q> + Send + Sync,
+    C: Trim<K, V, Q> + Send + Sync,
     T: Task<K, V, Q>,
 >(task: T) -> T::Out
     requires above { C.LEVEL ≡ 6 }
@@ -80,7 +81,7 @@ fn over_4<
     K: Key<Q> + Send + Sync,
     V: Item<Q> + Send + Sync,
     Q: Stock + Send + Sync,
-    C: Level<K, V, Q> + Send + Sync,
+    C: Trim<K, V, Q> + Send + Sync,
     T: Task<K, V, Q>,
 >(task: T) -> T::Out
     requires above { C.LEVEL ≡ 5 }
@@ -96,7 +97,7 @@ fn over_3<
     K: Key<Q> + Send + Sync,
     V: Item<Q> + Send + Sync,
     Q: Stock + Send + Sync,
-    C: Level<K, V, Q> + Send + Sync,
+    C: Trim<K, V, Q> + Send + Sync,
     T: Task<K, V, Q>,
 >(task: T) -> T::Out
     requires above { C.LEVEL ≡ 4 }
@@ -112,7 +113,7 @@ fn over_2<
     K: Key<Q> + Send + Sync,
     V: Item<Q> + Send + Sync,
     Q: Stock + Send + Sync,
-    C: Level<K, V, Q> + Send + Sync,
+    C: Trim<K, V, Q> + Send + Sync,
     T: Task<K, V, Q>,
 >(task: T) -> T::Out
     requires above { C.LEVEL ≡ 3 }
@@ -128,7 +129,7 @@ fn over_1<
     K: Key<Q> + Send + Sync,
     V: Item<Q> + Send + Sync,
     Q: Stock + Send + Sync,
-    C: Level<K, V, Q> + Send + Sync,
+    C: Trim<K, V, Q> + Send + Sync,
     T: Task<K, V, Q>,
 >(task: T) -> T::Out
     requires above { C.LEVEL ≡ 2 }
@@ -144,7 +145,7 @@ fn over_0<
     K: Key<Q> + Send + Sync,
     V: Item<Q> + Send + Sync,
     Q: Stock + Send + Sync,
-    C: Level<K, V, Q> + Send + Sync,
+    C: Trim<K, V, Q> + Send + Sync,
     T: Task<K, V, Q>,
 >(task: T) -> T::Out
     requires above { C.LEVEL ≡ 1 }

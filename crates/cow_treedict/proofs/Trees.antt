@@ -47,7 +47,7 @@ get-value k [] = refl
 get-value k (p ∷ ps) = ap (λ b. choice b (Some p.value) (get k ps)) (is-same p.key k) ∙ ap (λ o. choice (same k p.key) (Some p.value) o) (get-value k ps) ∙ sym (value-cons k p ps)
 
 -- ---- distinct keys
-none-member : (k : Literal) (ps : List Pair) → count_where (has_key k) ps ≡ 0 → member k (keys ps) ≡ false
+pub none-member : (k : Literal) (ps : List Pair) → count_where (has_key k) ps ≡ 0 → member k (keys ps) ≡ false
 none-member k [] h = refl
 none-member k (p ∷ ps) h = on_side (same k p.key)
     (λ e. let z : one_if (has_key k p) ≡ 1 = ap one_if (is-same p.key k ∙ e) in absurd (omega (arith, z, h)))
@@ -108,7 +108,7 @@ module _ (xs ys : List Pair) (d : Distinct xs) (e : Distinct ys) (h : (t : Pair 
   value-alike = alike-by (value_in q xs) refl
 
 -- ---- a key is given a value
-value-without : (k q : Literal) (ps : List Pair) → same q k ≡ false → value_in q (without k ps) ≡ value_in q ps
+pub value-without : (k q : Literal) (ps : List Pair) → same q k ≡ false → value_in q (without k ps) ≡ value_in q ps
 unfolding without
 value-without k q [] e = refl
 value-without k q (p ∷ ps) e =

@@ -26,13 +26,13 @@ use std::mem::replace;
 /// between copies until one of them is changed.
 ///
 /// A call on one key takes one step for each level of the trie down to the key, which are seven at most, and below the
-/// last of them one for each key of that hash. Only `new`, `from_pairs`, `update`, `merge`, `references` and `sorted` take
-/// memory.
+/// last of them one for each key of that hash. Only `new`, `from_pairs`, `update`, `remove`, `merge`, `filter_keys`,
+/// `references` and `sorted` take memory.
 #[derive(Drop)]
 pub struct TreeDictionary<K: Key<Q>, V: Item<Q>, Q: Stock, C: Level<K, V, Q>> {
-    root: Counted<C, Q>,
-    count: usize,
-    alloc: Global,
+    pub(crate) root: Counted<C, Q>,
+    pub(crate) count: usize,
+    pub(crate) alloc: Global,
     marker: PhantomData<(K, V)>,
 }
 
@@ -96,7 +96,7 @@ impl<K: Key<Q>, V: Item<Q>, Q: Stock, C: Level<K, V, Q>> TreeDictionary<K, V, Q,
     }
 
     /// A dictionary of these pairs, whose keys differ. Refused, they are ended.
-    fn built(
+    pub(crate) fn built(
         alloc: Global,
         pairs: Vec<(u32, K, V)>,
         h: &mut Holder<Q>,

@@ -14,18 +14,23 @@
 //! were that led to it; the pairs are counted, and are fewer than 2^31.
 //!
 //! The last parameter of the type is the root's node type. Whatever works on trees is generic in it, and a `Task` of
-//! `cow_champ` makes it; [`Tree`] is the type that it then is.
+//! `cow_levels` is run with it; [`Tree`] is the type that it then is.
 //!
 //! `dictionary` has the type and its calls, `distinct` the pairs that `from_pairs` builds a trie of, `merging` the copies
-//! of those that `merge` does, and `tree` the type of a root.
+//! of those that `merge` does, `removal` the call by which a pair goes, `filtering` the one by which those stay whose keys
+//! pass a test, and `tree` the type of a root.
 //!
-//! Every call that takes memory may always answer want of it by its contract; tests show that they succeed. How many nodes `update` copies depends on who else holds them, so its contract bounds the copies of an alone
-//! dictionary too, and a test shows that there are none where nobody else holds the trie.
+//! Every call that takes memory may always answer want of it by its contract, but `remove` where the key isn't there and
+//! `filter_keys` where all pairs stay; tests show that they succeed. How many nodes `update` and `remove` copy depends on who
+//! else holds them, so their contracts bound the copies of an alone dictionary too, and tests show that there are none where
+//! nobody else holds the trie.
 #![tactic(auto)]
 
 mod dictionary;
 mod distinct;
+mod filtering;
 mod merging;
+mod removal;
 mod tree;
 
 pub use dictionary::TreeDictionary;

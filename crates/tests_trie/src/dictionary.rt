@@ -8,6 +8,7 @@ use cow_cell::{Holder, Opening, Stock};
 use cow_champ::Level;
 use cow_levels::{Task, over_levels};
 use cow_treedict::TreeDictionary;
+use cow_trim::Trim;
 use std::alloc::Global;
 use std::marker::Brand;
 use std::test::Fail;
@@ -91,7 +92,7 @@ impl<'a, Q: Stock> Task<i64, i64, Q> for Ordered<'a> {
 
     ghost Gives = { λ t r. ⊤ };
 
-    fn run<C: Level<i64, i64, Q> + Send + Sync>(self) -> Option<(bool, bool)> {
+    fn run<C: Trim<i64, i64, Q> + Send + Sync>(self) -> Option<(bool, bool)> {
         let Ordered {
             alloc,
             opening,
@@ -176,7 +177,7 @@ impl<Q: Stock> Task<i64, i64, Q> for OneHash {
 
     ghost Gives = { λ t r. ⊤ };
 
-    fn run<C: Level<i64, i64, Q> + Send + Sync>(self) -> Self::Out {
+    fn run<C: Trim<i64, i64, Q> + Send + Sync>(self) -> Self::Out {
         let OneHash { alloc, opening } = self;
         let mut h = Holder::<Q>::fresh(opening);
         let mut t = TreeDictionary::<i64, i64, Q, C>::new(alloc, &mut h).ok()?;
@@ -237,7 +238,7 @@ impl<Q: Stock> Task<i64, i64, Q> for Shared {
 
     ghost Gives = { λ t r. ⊤ };
 
-    fn run<C: Level<i64, i64, Q> + Send + Sync>(self) -> Self::Out {
+    fn run<C: Trim<i64, i64, Q> + Send + Sync>(self) -> Self::Out {
         let Shared { alloc, opening } = self;
         let mut h = Holder::<Q>::fresh(opening);
         let mut t = TreeDictionary::<i64, i64, Q, C>::new(alloc, &mut h).ok()?;
@@ -305,7 +306,7 @@ impl<Q: Stock> Task<i64, i64, Q> for Many {
 
     ghost Gives = { λ t r. ⊤ };
 
-    fn run<C: Level<i64, i64, Q> + Send + Sync>(self) -> Option<bool> {
+    fn run<C: Trim<i64, i64, Q> + Send + Sync>(self) -> Option<bool> {
         let Many {
             alloc,
             opening,

@@ -6,4 +6,6 @@ mod dictionary;
 #[cfg(test)]
 mod making;
 #[cfg(test)]
+mod removing;
+#[cfg(test)]
 mod threads;

@@ -1,4 +1,5 @@
-//! Dictionaries that are made of pairs, or of two others: that the calls succeed, and how few items are copied.
+//! Dictionaries that are made of pairs, of two others, or of those pairs of one whose keys pass a test: that the calls
+//! succeed, and how few items are copied.
 ghost use Rattle.std.specs.Prelude.{◌≡◌, ◌≤◌, ◌<◌, ◌+◌, ◌^◌, length, IsTrue};
 ghost use Rattle.cow_cell.specs.Opens.{Opens};
 ghost use Rattle.cow_model.specs.Flat.{need};
@@ -8,6 +9,7 @@ use cow_champ::Level;
 use cow_dict::Merge;
 use cow_levels::{Task, over_levels};
 use cow_treedict::TreeDictionary;
+use cow_trim::Trim;
 use std::alloc::Global;
 use std::marker::Brand;
 use std::test::Fail;
@@ -77,7 +79,7 @@ impl<'a, Q: Stock> Task<i64, i64, Q> for Made<'a> {
 
     ghost Gives = { λ t r. ⊤ };
 
-    fn run<C: Level<i64, i64, Q> + Send + Sync>(self) -> Option<(bool, u64, bool)> {
+    fn run<C: Trim<i64, i64, Q> + Send + Sync>(self) -> Option<(bool, u64, bool)> {
         let Made {
             alloc,
             opening,
@@ -156,7 +158,7 @@ impl<'a, Q: Stock> Task<i64, i64, Q> for Merged<'a> {
 
     ghost Gives = { λ t r. ⊤ };
 
-    fn run<C: Level<i64, i64, Q> + Send + Sync>(self) -> Option<(bool, bool, u64)> {
+    fn run<C: Trim<i64, i64, Q> + Send + Sync>(self) -> Option<(bool, bool, u64)> {
         let Merged {
             alloc,
             opening,
@@ -241,5 +243,110 @@ fn a_merge_with_nothing_copies_nothing(rt: HostRuntime) -> Result<(), Fail> {
     let pairs = [(0, 1), (32, 2)];
     let answers = of_two::<Brand>(rt.alloc(), Opening::new(), &pairs, &[], Merge::Take, &pairs);
     assert_eq!(rt; answers, Some((true, true, 0)));
+    Ok(())
+}
+
+/// Keeps the pairs whose keys are at least `least`.
+fn keep_from<Q: Stock, C: Level<i64, i64, Q>>(
+    t: &mut TreeDictionary<i64, i64, Q, C>,
+    least: i64,
+    h: &mut Holder<Q>,
+) -> Option<()> {
+    if !can_filter(t, h) {
+        return None;
+    }
+    t.filter_keys(|k| *k >= least, h).ok()
+}
+
+/// Whether the holder can pay for a filter.
+fn can_filter<Q: Stock, C: Level<i64, i64, Q>>(
+    t: &TreeDictionary<i64, i64, Q, C>,
+    h: &Holder<Q>,
+) -> bool
+    ensures { IsTrue result → need (length t.now.value) ≤ h.now.spare }
+{
+    t.count() < 1000 && h.spare() >= 20_000
+}
+
+/// A dictionary of these pairs, the least key that is kept of it, and what it then has.
+#[derive(Drop)]
+struct Kept<'a> {
+    alloc: Global,
+    opening: Opening,
+    pairs: &'a [(i64, i64)],
+    least: i64,
+    expected: &'a [(i64, i64)],
+}
+
+impl<'a, Q: Stock> Task<i64, i64, Q> for Kept<'a> {
+    type Out = Option<(bool, u64, bool)>;
+
+    ghost use Rattle.std.specs.Prelude.{⊤};
+    ghost use Rattle.cow_cell.specs.Opens.{Opens};
+
+    ghost Takes = { λ t. Opens Q.Stock t.opening };
+
+    ghost Gives = { λ t r. ⊤ };
+
+    fn run<C: Trim<i64, i64, Q> + Send + Sync>(self) -> Option<(bool, u64, bool)> {
+        let Kept {
+            alloc,
+            opening,
+            pairs,
+            least,
+            expected,
+        } = self;
+        let mut h = Holder::<Q>::fresh(opening);
+        let mut t = made_of::<Q, C>(alloc, pairs, &mut h)?;
+        let done = keep_from(&mut t, least, &mut h);
+        let agrees = has_pairs(alloc, &t, expected);
+        t.end(&mut h);
+        done?;
+        Some((agrees?, h.copied(), h.spare() == 0x4000_0000_0000_0000))
+    }
+}
+
+/// Whether the dictionary then has what is expected; how many items were copied; and whether each unit is back.
+fn of_one<Q: Stock + Send + Sync>(
+    alloc: Global,
+    opening: Opening,
+    pairs: &[(i64, i64)],
+    least: i64,
+    expected: &[(i64, i64)],
+) -> Option<(bool, u64, bool)>
+    requires { Opens Q.Stock opening }
+{
+    over_levels::<i64, i64, Q, Kept>(Kept {
+        alloc,
+        opening,
+        pairs,
+        least,
+        expected,
+    })
+}
+
+#[test]
+fn a_filter_copies_the_pairs_that_stay(rt: HostRuntime) -> Result<(), Fail> {
+    let answers = of_one::<Brand>(
+        rt.alloc(),
+        Opening::new(),
+        &[(32, 1), (0, 2), (-1, 3), (4_294_967_297, 4), (-32, 5)],
+        0,
+        &[(0, 2), (32, 1), (4_294_967_297, 4)],
+    );
+    assert_eq!(rt; answers, Some((true, 6, true)));
+    Ok(())
+}
+
+#[test]
+fn a_filter_by_which_all_pairs_stay_copies_nothing(rt: HostRuntime) -> Result<(), Fail> {
+    let answers = of_one::<Brand>(
+        rt.alloc(),
+        Opening::new(),
+        &[(32, 1), (0, 2)],
+        0,
+        &[(0, 2), (32, 1)],
+    );
+    assert_eq!(rt; answers, Some((true, 0, true)));
     Ok(())
 }
