@@ -186,7 +186,7 @@ impl<K: Key<Q>, Q: Stock, C: Level<K, (), Q>> TreeSet<K, Q, C> {
     }
 
     /// Whether `k`, which has this hash, is a member.
-    fn has<E: Equivalent<K, Q>>(&self, hash: u32, k: &E) -> bool
+    pub(crate) fn has<E: Equivalent<K, Q>>(&self, hash: u32, k: &E) -> bool
         requires { hash ≡ K.hash_of (E.sought k.now) }
         ensures { result ≡ member (E.sought k.now) self.now.value }
     {
