@@ -54,13 +54,22 @@ pub fn is_as_told<R: Threads + Sync>(
     Ok(status == Status::Ok && is_within && text.as_slice() == wanted.as_slice())
 }
 
-/// Whether the script of a seed is run as the definitions say.
-fn is_as_defined<R: Threads + Sync>(rt: &R, alloc: Global, seed: u64) -> Result<bool, Fail> {
-    let script = script_of(alloc, seed)?;
-    let Ok(Ok(told)) = run_script(alloc, script.as_slice(), &RULES) else {
+/// Whether a script is run as the definitions say.
+pub fn runs_as_defined<R: Threads + Sync>(
+    rt: &R,
+    alloc: Global,
+    script: &[u8],
+) -> Result<bool, Fail> {
+    let Ok(Ok(told)) = run_script(alloc, script, &RULES) else {
         return Err("no script, or no memory".into());
     };
-    is_as_told(rt, alloc, CENSUS, script.as_slice(), &told)
+    is_as_told(rt, alloc, CENSUS, script, &told)
+}
+
+/// Whether the script of a seed is.
+fn is_as_defined<R: Threads + Sync>(rt: &R, alloc: Global, seed: u64) -> Result<bool, Fail> {
+    let script = script_of(alloc, seed)?;
+    runs_as_defined(rt, alloc, script.as_slice())
 }
 
 /// The first of a test's seeds, which begin at this one, whose script isn't.
