@@ -1,6 +1,7 @@
 ghost use Rattle.std.specs.Prelude.{◌≡◌, ℕ, ◌<◌, ◌≤◌, ◌^◌, length, ◌+◌, ◌++◌, map, take, drop, replicate, slice_set, IfOk, Some, None};
 ghost use Rattle.std.specs.Borrow.{sem};
-ghost use Rattle.cow_buf.specs.Places.{place, IsFilled, IsRun, IsClear, IsClearBut, shifted};
+ghost use Rattle.std.specs.List.{splice};
+ghost use Rattle.cow_buf.specs.Places.{place, IsFilled, IsRun, IsClear, IsClearBut, blanked, shifted};
 
 use crate::memory::Memory;
 use cow_model::NoMemory;
@@ -10,8 +11,8 @@ use std_alloc::room::may_hold;
 
 /// One block of memory with room for a fixed number of values: a pointer and a number.
 ///
-/// No call but `with_capacity` takes memory. Each is one step, and `shift` and `drain_into` are one move of
-/// memory. A buffer doesn't note which places are filled, so it has no drop: whoever has one takes its values
+/// No call but `with_capacity` takes memory. Each is one step, and `shift`, `drain_into` and `move_into` are one
+/// move of memory. A buffer doesn't note which places are filled, so it has no drop: whoever has one takes its values
 /// out and frees it.
 pub struct Buf<T> {
     memory: Memory<T>,
@@ -137,6 +138,17 @@ impl<T> Buf<T> {
         ensures left { self.new ≡ replicate (length self.old) None }
         ensures came { other.new ≡ self.old ++ drop (length self.old) other.old }
     {
-        self.memory.hand_over(&mut other.memory, 0, n);
+        self.memory.hand_over(&mut other.memory, 0, 0, n);
+    }
+
+    /// Moves the values in the `n` places from `from` on to those from `to` on of `other`, which are empty.
+    pub fn move_into(&mut self, from: usize, other: &mut Buf<T>, to: usize, n: usize)
+        requires run { IsRun self.old from n }
+        requires to { to + n ≤ length other.old }
+        requires clear { IsClear other.old to (to + n) }
+        ensures left { self.new ≡ blanked None from n self.old }
+        ensures came { other.new ≡ splice other.old to (to + n) (take n (drop from self.old)) }
+    {
+        self.memory.hand_over(&mut other.memory, from, to, n);
     }
 }

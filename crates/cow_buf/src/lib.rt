@@ -3,7 +3,7 @@
 //! A `Buf<T>` is one block of memory with room for a fixed number of values. Contracts see it as a list of
 //! `Option<T>`, as long as the capacity: the i-th is `None` where the i-th place is empty. A value gets in by
 //! `put` and out by `take`, is read by `at` and `at_mut`, a run of places is read by `run` as one slice, and
-//! moves by `shift` and `drain_into`.
+//! moves by `shift`, `drain_into` and `move_into`.
 //!
 //! A place costs the size of a `T` and nothing more: which places are filled is known by the contracts alone. So
 //! nothing is looked at and nothing is noted at run time, a new buffer is one allocation, and a run moves by one

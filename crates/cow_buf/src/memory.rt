@@ -131,14 +131,14 @@ impl<T> Memory<T> {
         }
     }
 
-    // One copy of memory, where the run goes to the same places of another block.
-    pub(crate) fn hand_over(&mut self, other: &mut Memory<T>, from: usize, n: usize)
+    // One copy of memory, where the run goes to another block.
+    pub(crate) fn hand_over(&mut self, other: &mut Memory<T>, from: usize, to: usize, n: usize)
         requires run { IsRun self.old.places from n }
-        requires room { from + n ≤ length other.old.places }
-        requires clear { IsClear other.old.places from (from + n) }
+        requires room { to + n ≤ length other.old.places }
+        requires clear { IsClear other.old.places to (to + n) }
         ensures left { self.new.places ≡ blanked None from n self.old.places }
-        ensures came { other.new.places ≡ splice other.old.places from (from + n) (take n (drop from self.old.places)) }
+        ensures came { other.new.places ≡ splice other.old.places to (to + n) (take n (drop from self.old.places)) }
     {
-        unsafe { ptr::copy_nonoverlapping(self.start.add(from), other.start.add(from), n) }
+        unsafe { ptr::copy_nonoverlapping(self.start.add(from), other.start.add(to), n) }
     }
 }
