@@ -1,3 +1,4 @@
+pub mod Growth
 pub mod Openings
 pub mod Rings
 pub mod Shifts

@@ -1,9 +1,10 @@
 -- The places of a ring through each step of its calls.
-use Rattle.std.proofs.Common.{◌≡◌, ℕ, suc, ◌+◌, ◌-◌, ◌<◌, ◌≤◌, ◌^◌, ◌⊎◌, inl, inr, List, [], ◌∷◌, ◌++◌, length, map, set, slice_get, take, drop, replicate, Option, Some, None, refl, sym, ap, ◌∙◌, arith, length-append, length-set, length-drop, append_assoc, append-nil}
+use Rattle.std.proofs.Common.{◌≡◌, ℕ, suc, ◌+◌, ◌-◌, ◌<◌, ◌≤◌, ◌^◌, ◌⊎◌, inl, inr, List, [], ◌∷◌, ◌++◌, length, map, set, slice_get, take, drop, replicate, Option, Some, None, refl, sym, ap, ◌∙◌, arith, length-append, length-set, length-drop, append_assoc, append-nil, All}
 use Rattle.std.proofs.lemmas.List.{length-map, length-replicate, set_at, drop_at, take_at, replicate_more, take-append-le, take-take, take-map, drop-map, take_all, take-append-drop, same_from_push}
+use Rattle.std.proofs.lemmas.List.Elements.{All-take, All-drop}
 use Rattle.std.proofs.Math.Seq.{take-append-add}
 use Rattle.cow_buf.specs.Places.{IsFilled, IsRun}
-use Rattle.cow_row.specs.Places.{somes, place, packed}
+use Rattle.cow_row.specs.Places.{somes, place, packed, IsPacked}
 use Rattle.cow_row.proofs.Packed.{somes-packed, length-packed, is_packed, filled_at, is_filled, IsPacked-push, somes-push, IsPacked-set, somes-set, IsPacked-pop, somes-pop}
 use Rattle.cow_row.proofs.Splices.{somes-some}
 use Rattle.cow_row.proofs.Whole.{past_none}
@@ -155,6 +156,12 @@ module _ {X : Type 0} where
       let row : turned h cs ≡ replicate (length cs) None = laid cs h n r ∙ rw (e, room) refl in
       sym (turned-back cs h r.start) ∙ ap (turned (length cs - h)) row ∙ turned-same (length cs) (length cs - h) None (omega arith)
 
+  -- such a ring may as well be read from the first place on
+  pub bare-ring : (cs : List (Option X)) (h n : ℕ) → IsRing cs h n → items_of cs h ≡ [] → IsPacked cs 0 0 × (somes cs ≡ [])
+  bare-ring cs h n r e =
+      let bare : cs ≡ packed 0 [] (length cs) = none-left cs h n r e in
+      (is_packed 0 [] (length cs) 0 cs bare refl (omega (arith, small-ring cs h n r)), ap somes bare ∙ somes-packed 0 [] (length cs))
+
   -- a full ring from another place on
   pub ring-turned : (cs : List (Option X)) (h n k q : ℕ) → IsRing cs h n → n ≡ length cs → k < n → Wraps h k (length cs) q → IsRing cs q n × (items_of cs q ≡ turned k (items_of cs h))
   ring-turned cs h n k q r full l w =
@@ -211,3 +218,11 @@ module _ {X : Type 0} where
       last-to-first : (zs ys : List X) (x : X) → 0 < length zs → turned 1 zs ≡ ys ++ x ∷ [] → x ∷ ys ≡ zs
       last-to-first [] ys x h e = absurd (omega (arith, h))
       last-to-first (z ∷ zs) ys x h e = let both = same_from_push zs ys z x e in let front = both.0 in let last = both.1 in cc
+
+-- what is so of two lists together is so of each
+pub All-both : {X : Type 0} (P : X → Type 0) (xs ys zs : List X) → xs ++ ys ≡ zs → All P zs → All P xs × All P ys
+All-both P xs ys zs e a =
+    let both = rw (← e) at a in (
+      rw (take_at xs ys (length xs) refl) at (All-take P (length xs) (xs ++ ys) both),
+      rw (drop_at xs ys (length xs) refl) at (All-drop P (length xs) (xs ++ ys) both),
+    )

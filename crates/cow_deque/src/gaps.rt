@@ -16,7 +16,7 @@ pub fn wrapped(head: usize, i: usize, n: usize) -> usize
 }
 
 /// The lesser of two numbers.
-fn lesser(a: usize, b: usize) -> usize
+pub fn lesser(a: usize, b: usize) -> usize
     ensures { result ≡ min a b }
 {
     if a < b { a } else { b }

@@ -13,6 +13,7 @@
 //!   end, the items stand side by side, and the places behind them are empty. Contracts see it as a row of `cow_row`
 //!   without empty places in front, so the words for rows serve for rings.
 //! - `gaps`: what an insertion and a removal are made of: one empty place that moves through the items.
+//! - `pours`: how the items go from one buffer into a longer one, each once.
 //! - `storage`: the bodies that changes share, each on a `Counted<Ring<T>>`, as `cow_row` has them for rows.
 //!
 //! The invariant of a deque: the items of the storage are settled, so that a copy of one can't be refused.
@@ -24,6 +25,7 @@
 
 mod deque;
 mod gaps;
+mod pours;
 mod ring;
 mod storage;
 

@@ -1,8 +1,15 @@
-ghost use Rattle.std.specs.Prelude.{◌≡◌, ℕ, ◌+◌, ◌-◌, ◌<◌, ◌≤◌, ◌^◌, [], ◌∷◌, ◌++◌, length, slice_get, slice_set, insert, remove, IfOk, IfNone, IfSome, OnOk, OnErr, IsOk, IsTrue, ◌↔◌, Some, None, max};
+ghost use Rattle.std.specs.Prelude.{◌≡◌, ℕ, ◌+◌, ◌-◌, ◌*◌, ◌<◌, ◌≤◌, ◌^◌, [], ◌∷◌, ◌++◌, length, map, All, slice_get, slice_set, insert, remove, IfOk, IfNone, IfSome, OnOk, OnErr, IsOk, IsTrue, ◌↔◌, Some, None, max};
+ghost use Rattle.cow_model.specs.Purse.{noted};
+ghost use Rattle.cow_row.specs.Places.{somes, IsPacked};
+ghost use Rattle.cow_row.specs.Words.{Spends};
 ghost use Rattle.cow_deque.specs.Rings.{turned};
 
 use crate::gaps::{self, wrapped};
+use crate::pours::pour;
+use core::mem::replace_with;
 use cow_buf::Buf;
+use cow_cell::{Holder, Stock};
+use cow_item::Item;
 use cow_model::NoMemory;
 use std::alloc::Global;
 use std::marker::Model;
@@ -181,8 +188,8 @@ impl<T: Drop> Ring<T> {
         (front, rest)
     }
 
-    /// Room for `n` items in all. Moves each item once and copies none; where it takes memory, it takes it for `n`
-    /// items, once. The items stand from the first place on then.
+    /// Room for `n` items in all. Moves each item once, by two moves of memory, and copies none; where it takes memory,
+    /// it takes it for `n` items, once. The items stand from the first place on then.
     #[cold]
     #[inline(never)]
     pub fn reserve(&mut self, alloc: Global, n: usize) -> Result<(), NoMemory>
@@ -196,11 +203,11 @@ impl<T: Drop> Ring<T> {
         if n <= self.capacity() {
             return Ok(());
         }
-        let mut wider = Ring::with_capacity(alloc, n)?;
-        while let Some(x) = self.pop_front() {
-            wider.push(x);
-        }
-        mem::replace(self, wider).free();
+        let mut wider = Buf::with_capacity(alloc, n)?;
+        let (head, len) = (self.head, self.len);
+        pour(&mut self.buf, head, len, &mut wider);
+        self.head = 0;
+        mem::replace(&mut self.buf, wider).free();
         Ok(())
     }
 
@@ -277,4 +284,69 @@ impl<T: Drop> Ring<T> {
         self.head = head;
         item
     }
+}
+
+/// Copies of all items of `from`, in their order, stand in `to`, which is empty, from the first place on. One pass over
+/// the two slices, and one count of the copies. Takes no memory.
+pub fn copy_items<T: Item<Q>, Q: Stock>(from: &Ring<T>, to: &mut Ring<T>, h: &mut Holder<Q>)
+    requires small { length from.now.items ≤ 2 ^ 31 }
+    requires settled { All T.IsSettled from.now.items }
+    requires empty { to.old.items ≡ [] }
+    requires room { length from.now.items ≤ to.old.capacity }
+    requires spare { length from.now.items ≤ h.old.spare }
+    ensures same { map T.plain to.new.items ≡ map T.plain from.now.items }
+    ensures count { length to.new.items ≡ length from.now.items }
+    ensures settled { All T.IsSettled to.new.items }
+    ensures capacity { to.new.capacity ≡ to.old.capacity }
+    ensures units { Spends T.plain T.is_counted from.now.items h.old h.new }
+    ensures copied { h.new.copied ≡ (noted (T.WEIGHT * length from.now.items) h.old).copied }
+{
+    let count = from.len;
+    let (front, rest) = from.as_slices();
+    let run = (front, 0, h.split(count as u64));
+    let left = replace_with(&mut to.buf, run, with_twins);
+    let run = (rest, front.len(), left);
+    let left = replace_with(&mut to.buf, run, with_twins);
+    h.join(left);
+    h.note(T::WEIGHT * count as u64);
+    to.head = 0;
+    to.len = count;
+}
+
+/// Puts twins of a slice's items into the places behind the `len` items that stand from the first place on, and answers
+/// the buffer and the holder. It has both by value, so that the loop keeps the buffer's pointer and the holder's
+/// numbers in registers, and writes items and nothing else.
+fn with_twins<T: Item<Q>, Q: Stock>(
+    to: Buf<T>,
+    run: (&[T], usize, Holder<Q>),
+) -> (Buf<T>, Holder<Q>)
+    requires small { length run.0.now ≤ 2 ^ 31 }
+    requires from_settled { All T.IsSettled run.0.now }
+    requires packed { IsPacked to 0 run.1 }
+    requires to_settled { All T.IsSettled (somes to) }
+    requires room { run.1 + length run.0.now ≤ length to }
+    requires spare { length run.0.now ≤ run.2.spare }
+    ensures packed { IsPacked result.0 0 (run.entry.1 + length run.entry.0.now) }
+    ensures long { length result.0 ≡ length to }
+    ensures same { map T.plain (somes result.0) ≡ map T.plain (somes to ++ run.entry.0.now) }
+    ensures settled { All T.IsSettled (somes result.0) }
+    ensures units { Spends T.plain T.is_counted run.entry.0.now run.entry.2 result.1 }
+    ensures copied { result.1.copied ≡ run.entry.2.copied }
+{
+    let (from, len, h) = run;
+    let (mut to, mut h) = (to, h);
+    let mut n = len;
+    for i in 0..from.len() {
+        to.put(n, item(from, i).twin(&mut h));
+        n += 1;
+    }
+    (to, h)
+}
+
+/// Item `i` of a slice.
+fn item<T>(from: &[T], i: usize) -> &T
+    requires { i < length from.now }
+    ensures { slice_get from.now i ≡ Some result.now }
+{
+    &from[i]
 }

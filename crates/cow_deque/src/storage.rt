@@ -2,9 +2,9 @@ ghost use Rattle.std.specs.Prelude.{◌≡◌, ℕ, ◌+◌, ◌*◌, ◌<◌, �
 ghost use Rattle.cow_model.specs.Purse.{Moves, less, more, noted};
 ghost use Rattle.cow_cell.specs.Words.{Holds, unsure};
 ghost use Rattle.cow_row.specs.RowView.{IsSound};
-ghost use Rattle.cow_row.specs.Words.{units, IsFresh, IsWide, StandsBy, Costs, Returns, Spends, Gains};
+ghost use Rattle.cow_row.specs.Words.{units, IsFresh, IsWide, StandsBy, Costs, Returns, Gains};
 
-use crate::ring::Ring;
+use crate::ring::{Ring, copy_items};
 use cow_cell::{Counted, Holder, Stock};
 use cow_item::Item;
 use cow_model::NoMemory;
@@ -49,28 +49,6 @@ pub fn empty<T: Item<Q>, Q: Stock>(
         Ok(cell) => Ok(cell),
         Err((refused, _ring)) => Err(refused),
     }
-}
-
-/// Copies of all items of `from`, in their order, stand last in `to`. One pass over them, and one count of the
-/// copies. Takes no memory.
-fn copy_items<T: Item<Q>, Q: Stock>(from: &Ring<T>, to: &mut Ring<T>, h: &mut Holder<Q>)
-    requires small { length from.now.items ≤ 2 ^ 31 }
-    requires from_settled { All T.IsSettled from.now.items }
-    requires to_settled { All T.IsSettled to.old.items }
-    requires room { length to.old.items + length from.now.items ≤ to.old.capacity }
-    requires spare { length from.now.items ≤ h.old.spare }
-    ensures same { Gains T.plain from.now.items to.old.items to.new.items }
-    ensures count { length to.new.items ≡ length to.old.items + length from.now.items }
-    ensures settled { All T.IsSettled to.new.items }
-    ensures capacity { to.new.capacity ≡ to.old.capacity }
-    ensures units { Spends T.plain T.is_counted from.now.items h.old h.new }
-    ensures copied { h.new.copied ≡ (noted (T.WEIGHT * length from.now.items) h.old).copied }
-{
-    let count = from.len();
-    for i in 0..count {
-        to.push(from.get(i).twin(h));
-    }
-    h.note(T::WEIGHT * count as u64);
 }
 
 /// Puts a new storage in place of one that others hold too: of copies of its items, at a capacity. All its memory
