@@ -1,9 +1,11 @@
 -- Tests of every pair.
-use Rattle.std.proofs.Common.{◌≡◌, ℕ, zero, suc, ◌+◌, ◌<◌, List, [], ◌∷◌, ◌++◌, map, length, get_or, Bool, true, false, ◌&&◌, inl, inr, refl, sym, ap, ◌∙◌, arith, subst}
+use Rattle.std.proofs.Common.{◌≡◌, ℕ, zero, suc, ◌+◌, ◌<◌, List, [], ◌∷◌, ◌++◌, map, take, length, get_or, Bool, true, false, cond, ◌&&◌, inl, inr, refl, sym, ap, ◌∙◌, arith, subst}
 use Rattle.std.specs.List.{list_all}
 use Rattle.std.proofs.lemmas.Bool.{cases_eq}
+use Rattle.std.proofs.lemmas.List.{take_more, map-append}
 use Rattle.std.proofs.lemmas.List.Folds.{list_all-append}
-use Rattle.cow_model.specs.Canon.{spread}
+use Rattle.cow_model.proofs.CanonCounts.{count-append}
+use Rattle.cow_model.specs.Canon.{count_where, spread}
 use Rattle.cow_model.specs.declared.value.Pair.{Pair}
 
 and_false : (a : Bool) → (a && false) ≡ false
@@ -27,3 +29,13 @@ spread_but t f d (suc n) l h =
       | inl e ↦ list_all-append t (spread n f) (f n) ∙ ap (λ b. list_all t (spread n f) && b) (subst (λ m. list_all t (f m) ≡ false) e h) ∙ and_false (list_all t (spread n f))
       | inr ne ↦ list_all-append t (spread n f) (f n) ∙ ap (λ b. b && list_all t (f n)) (spread_but t f d n (omega (arith, l, ne)) h)
     ]
+
+-- ---- how many pass
+pub spread_count : (t : Pair → Bool) (f : ℕ → List Pair) (d : ℕ) → count_where t (spread (suc d) f) ≡ count_where t (spread d f) + count_where t (f d)
+unfolding spread
+spread_count t f d = count-append t (spread d f) (f d)
+
+pub count_more : {X : Type 0} (t : Pair → Bool) (f : X → Pair) (xs : List X) (i : ℕ) (x : X) → i < length xs → x ≡ get_or xs i x → count_where t (map f (take (i + 1) xs)) ≡ count_where t (map f (take i xs)) + cond (t (f x)) 1 0
+count_more t f xs i x h r =
+    let a : take (i + 1) xs ≡ take i xs ++ x ∷ [] = take_more xs i x h ∙ ap (λ z. take i xs ++ z ∷ []) (sym r) in
+    ap (λ ys. count_where t (map f ys)) a ∙ ap (count_where t) (map-append f (take i xs) (x ∷ [])) ∙ count-append t (map f (take i xs)) (f x ∷ []) ∙ omega arith

@@ -1,6 +1,6 @@
-ghost use Rattle.std.specs.Prelude.{◌≡◌, ◌≤◌, ◌<◌, ◌+◌, ◌*◌, ◌-◌, ◌^◌, ℕ, Bool, IfOk, IfErr, OnOk, OnErr, option_map, true, false, [], map, length, All};
+ghost use Rattle.std.specs.Prelude.{◌≡◌, ◌≤◌, ◌<◌, ◌+◌, ◌*◌, ◌-◌, ◌^◌, ℕ, min, Bool, IfOk, IfErr, OnOk, OnErr, option_map, true, false, [], map, length, All};
 ghost use Rattle.std.specs.List.{list_all};
-ghost use Rattle.cow_model.specs.Canon.{Tree, pairs, canon, is_one, IsCanonical, IsDistinct, AgreeBelow};
+ghost use Rattle.cow_model.specs.Canon.{Tree, pairs, canon, count_where, is_one, IsCanonical, IsDistinct, AgreeBelow};
 ghost use Rattle.cow_model.specs.declared.plain.Literal.{Literal};
 ghost use Rattle.cow_champ.specs.Node.{hashed, both, seen_pair, SeenSettled};
 ghost use Rattle.cow_champ.specs.Words.{size, held, alike, with_pair, Appends};
@@ -79,6 +79,16 @@ pub trait Level<K: Key<Q>, V: Item<Q>, Q: Stock>: Sized + Drop {
         ensures { (p : Literal → Literal → Bool)
             → ((k : _) (v : _) (r : Bool) → F.post test.now k v r → r ≡ p (K.plain k.now) (V.plain v.now))
             → result ≡ list_all (λ q. p q.key q.value) (pairs (shape self.now)) };
+
+    /// Of how many pairs a test is true; the number stands still at 2^64 - 1. The test answers by the plain pair alone, and
+    /// is asked once of each. Takes no memory.
+    fn tally<F: Fn(&K, &V) -> bool>(&self, test: &F) -> usize
+        requires stacked { Stacked }
+        requires whole { IsWhole self.now }
+        requires callable { F.IsAlwaysCallable test.now }
+        ensures { (p : Literal → Literal → Bool)
+            → ((k : _) (v : _) (r : Bool) → F.post test.now k v r → r ≡ p (K.plain k.now) (V.plain v.now))
+            → result ≡ min (count_where (λ q. p q.key q.value) (pairs (shape self.now))) (2 ^ 64 - 1) };
 
     /// A second node of the same shape: its items are copied, and its children get a handle more.
     fn copy_node(&self, alloc: Global, h: &mut Holder<Q>) -> Result<Self, NoMemory>

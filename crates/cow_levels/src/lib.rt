@@ -1,10 +1,13 @@
 //! Tries of seven branches over a collision node: the levels of `cow_champ`, put on one another.
 //!
-//! Whatever works on tries is generic in the root's type. That type is made here alone, a level at a time: a function
-//! that names a stack of levels costs the check the more, the more levels it names, so each here names one level over a
-//! level that it doesn't know. There is no invariant. The layer above makes a [`Task`] of what it does, and runs it by
+//! Whatever works on tries is generic in the root's type. A root's type says itself that it is one ([`Root`]), so that
+//! types and traits above can rest on it. There is no invariant. Where the type is to be made, a level is put on at a
+//! time: a function that names a stack of levels costs the check the more, the more levels it names, so each here names
+//! one level over a level that it doesn't know. The layer above makes a [`Task`] of what it does, and runs it by
 //! [`over_levels`].
 #![tactic(auto)]
+
+mod roots;
 
 ghost use Rattle.std.specs.Prelude.{◌≡◌, ℕ};
 
@@ -12,6 +15,7 @@ use cow_cell::Stock;
 use cow_champ::{Branch, Collide};
 use cow_item::{Item, Key};
 use cow_trim::Trim;
+pub use roots::{Root, Stands};
 
 /// What is done with tries whose root is of any level type, of which keys can be removed too. `over_levels` runs it with
 /// seven branches over a collision node; no trie comes in or out, so it makes its own.
@@ -38,7 +42,7 @@ pub fn over_levels<
     Q: Stock + Send + Sync,
     T: Task<K, V, Q>,
 >(task: T) -> T::Out
-    requires takes { T.Takes task }
+    requires { T.Takes task }
     ensures { T.Gives task result }
 {
     over_6::<K, V, Q, Collide<K, V>, T>(task)
@@ -49,12 +53,10 @@ fn over_6<
     K: Key<Q> + Send + Sync,
     V: Item<Q> + Send + Sync,
     Q: Stock + Send + Sync,
-    C: Trim<K, V, Q> + Send + Sync,
+    C: Stands<K, V, Q, 7> + Send + Sync,
     T: Task<K, V, Q>,
 >(task: T) -> T::Out
-    requires above { C.LEVEL ≡ 7 }
-    requires stacked { C.Stacked }
-    requires takes { T.Takes task }
+    requires { T.Takes task }
     ensures { T.Gives task result }
 {
     over_5::<K, V, Q, Branch<K, V, C, Q, 6>, T>(task)
@@ -65,12 +67,10 @@ fn over_5<
     K: Key<Q> + Send + Sync,
     V: Item<Q> + Send + Sync,
     Q: Stock + Send + Sync,
-    C: Trim<K, V, Q> + Send + Sync,
+    C: Stands<K, V, Q, 6> + Send + Sync,
     T: Task<K, V, Q>,
 >(task: T) -> T::Out
-    requires above { C.LEVEL ≡ 6 }
-    requires stacked { C.Stacked }
-    requires takes { T.Takes task }
+    requires { T.Takes task }
     ensures { T.Gives task result }
 {
     over_4::<K, V, Q, Branch<K, V, C, Q, 5>, T>(task)
@@ -81,12 +81,10 @@ fn over_4<
     K: Key<Q> + Send + Sync,
     V: Item<Q> + Send + Sync,
     Q: Stock + Send + Sync,
-    C: Trim<K, V, Q> + Send + Sync,
+    C: Stands<K, V, Q, 5> + Send + Sync,
     T: Task<K, V, Q>,
 >(task: T) -> T::Out
-    requires above { C.LEVEL ≡ 5 }
-    requires stacked { C.Stacked }
-    requires takes { T.Takes task }
+    requires { T.Takes task }
     ensures { T.Gives task result }
 {
     over_3::<K, V, Q, Branch<K, V, C, Q, 4>, T>(task)
@@ -97,12 +95,10 @@ fn over_3<
     K: Key<Q> + Send + Sync,
     V: Item<Q> + Send + Sync,
     Q: Stock + Send + Sync,
-    C: Trim<K, V, Q> + Send + Sync,
+    C: Stands<K, V, Q, 4> + Send + Sync,
     T: Task<K, V, Q>,
 >(task: T) -> T::Out
-    requires above { C.LEVEL ≡ 4 }
-    requires stacked { C.Stacked }
-    requires takes { T.Takes task }
+    requires { T.Takes task }
     ensures { T.Gives task result }
 {
     over_2::<K, V, Q, Branch<K, V, C, Q, 3>, T>(task)
@@ -113,12 +109,10 @@ fn over_2<
     K: Key<Q> + Send + Sync,
     V: Item<Q> + Send + Sync,
     Q: Stock + Send + Sync,
-    C: Trim<K, V, Q> + Send + Sync,
+    C: Stands<K, V, Q, 3> + Send + Sync,
     T: Task<K, V, Q>,
 >(task: T) -> T::Out
-    requires above { C.LEVEL ≡ 3 }
-    requires stacked { C.Stacked }
-    requires takes { T.Takes task }
+    requires { T.Takes task }
     ensures { T.Gives task result }
 {
     over_1::<K, V, Q, Branch<K, V, C, Q, 2>, T>(task)
@@ -129,12 +123,10 @@ fn over_1<
     K: Key<Q> + Send + Sync,
     V: Item<Q> + Send + Sync,
     Q: Stock + Send + Sync,
-    C: Trim<K, V, Q> + Send + Sync,
+    C: Stands<K, V, Q, 2> + Send + Sync,
     T: Task<K, V, Q>,
 >(task: T) -> T::Out
-    requires above { C.LEVEL ≡ 2 }
-    requires stacked { C.Stacked }
-    requires takes { T.Takes task }
+    requires { T.Takes task }
     ensures { T.Gives task result }
 {
     over_0::<K, V, Q, Branch<K, V, C, Q, 1>, T>(task)
@@ -145,13 +137,21 @@ fn over_0<
     K: Key<Q> + Send + Sync,
     V: Item<Q> + Send + Sync,
     Q: Stock + Send + Sync,
-    C: Trim<K, V, Q> + Send + Sync,
+    C: Stands<K, V, Q, 1> + Send + Sync,
     T: Task<K, V, Q>,
 >(task: T) -> T::Out
-    requires above { C.LEVEL ≡ 1 }
-    requires stacked { C.Stacked }
-    requires takes { T.Takes task }
+    requires { T.Takes task }
     ensures { T.Gives task result }
 {
-    task.run::<Branch<K, V, C, Q, 0>>()
+    over_root::<K, V, Q, Branch<K, V, C, Q, 0>, T>(task)
+}
+
+/// Over a root.
+fn over_root<K: Key<Q>, V: Item<Q>, Q: Stock, C: Root<K, V, Q> + Send + Sync, T: Task<K, V, Q>>(
+    task: T,
+) -> T::Out
+    requires { T.Takes task }
+    ensures { T.Gives task result }
+{
+    task.run::<C>()
 }

@@ -18,8 +18,9 @@ use Rattle.cow_champ.specs.Spending.{Spends, put_need}
 use Rattle.cow_model.specs.Purse.{Purse, unit_if}
 use Rattle.cow_model.specs.declared.plain.Literal.{Literal}
 use Rattle.cow_model.specs.declared.value.Pair.{Pair}
-use Rattle.cow_members.proofs.Ascents.{same-is, itself, member-same}
+use Rattle.cow_members.proofs.Ascents.{count_by-ascending, same-is, itself, member-same}
 use Rattle.cow_members.specs.Ascents.{Ascends}
+use Rattle.cow_members.specs.Sets.{lacking}
 use Rattle.cow_set.proofs.Sorted.{before, sorted-ascends}
 use Rattle.cow_dict.specs.Dictionaries.{has, holds}
 use Rattle.cow_dict.specs.Storages.{pair_of, keys, by_key}
@@ -206,6 +207,26 @@ count-by t (p ∷ ps) = sum_by-cons (λ x. cond (t x) 1 0) p ps ∙ ap (λ n. co
 
 pub alike-map : (hash_of : Literal → ℕ) (hash : ℕ) (ps : List Pair) → alike hash_of hash (by_key ps) ≡ count_where (λ p. eqb (hash_of p.key) hash) ps
 alike-map hash_of hash ps = sum-by_key (λ p. cond (eqb (hash_of p.key) hash) 1 0) ps ∙ count-by (λ p. eqb (hash_of p.key) hash) ps
+
+-- how many keys another map lacks
+pub few-pass : (t : Pair → Bool) (ps : List Pair) → count_where t ps ≤ length ps
+few-pass t [] = omega arith
+few-pass t (p ∷ ps) = omega (arith, newly-few (t p), few-pass t ps)
+
+lacks-count : (v ps : List Pair) → count_where (λ p. not (has p.key v)) ps ≡ count_by (λ a. not (member a (keys v))) (keys ps)
+lacks-count v [] = refl
+lacks-count v (p ∷ ps) =
+    ap (λ b. cond (not b) 1 0 + count_where (λ q. not (has q.key v)) ps) (has-member p.key v)
+    ∙ ap (λ n. cond (not (member p.key (keys v))) 1 0 + n) (lacks-count v ps)
+    ∙ sym (sum_by-cons (λ a. cond (not (member a (keys v))) 1 0) p.key (keys ps))
+
+pub lacking-map : (v ps : List Pair) → count_where (λ p. not (has p.key v)) ps ≡ lacking (keys v) (keys (by_key ps))
+lacking-map v ps =
+    lacks-count v ps ∙ sym (count_by-ascending (λ a. not (member a (keys v))) (keys ps)) ∙ ap (lacking (keys v)) (sym (keys-by_key ps))
+
+pub all-of-keys : (t : Literal → Bool) (ps : List Pair) → list_all (λ p. t p.key) ps ≡ list_all t (keys ps)
+all-of-keys t [] = refl
+all-of-keys t (p ∷ ps) = ap (λ b. t p.key && b) (all-of-keys t ps)
 
 -- a list by ascending key is its own
 pub own-map : (v : List Pair) → Ascends (keys v) → v ≡ by_key v

@@ -198,7 +198,8 @@ impl<K: Key<Q>, V: Item<Q>, Q: Stock, C: Level<K, V, Q>> TreeDictionary<K, V, Q,
     /// The value under `k`, or under the key that it stands for: Swift's `subscript(key:)`. `None` exactly where there
     /// is none.
     pub fn get<E: Equivalent<K, Q>>(&self, k: &E) -> Option<&V>
-        ensures { option_map (λ v. V.plain v.now) result ≡ value_in (E.sought k.now) self.now.value }
+        ensures value { option_map (λ v. V.plain v.now) result ≡ value_in (E.sought k.now) self.now.value }
+        ensures distinct { Ascends (keys self.now.value) }
     {
         self.root.get().find(k.sought_hash(), k)
     }
@@ -360,7 +361,7 @@ impl<K: Key<Q>, V: Key<Q>, Q: Stock, C: Level<K, V, Q>> TreeDictionary<K, V, Q, 
     }
 
     /// Whether `v` stands under `k`.
-    fn has_pair(&self, k: &K, v: &V) -> bool
+    pub(crate) fn has_pair(&self, k: &K, v: &V) -> bool
         ensures { result ≡ holds self.now.value (pair_of (K.plain k.now) (V.plain v.now)) }
     {
         match self.get(k) {

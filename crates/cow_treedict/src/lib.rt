@@ -17,8 +17,8 @@
 //! `cow_levels` is run with it; [`Tree`] is the type that it then is.
 //!
 //! `dictionary` has the type and its calls, `distinct` the pairs that `from_pairs` builds a trie of, `merging` the copies
-//! of those that `merge` does, `removal` the call by which a pair goes, `filtering` the one by which those stay whose keys
-//! pass a test, and `tree` the type of a root.
+//! of those that `merge` does, `questions` what is asked of all keys, `removal` the call by which a pair goes, `filtering`
+//! the one by which those stay whose keys pass a test, and `tree` the type of a root.
 //!
 //! Every call that takes memory may always answer want of it by its contract, but `remove` where the key isn't there and
 //! `filter_keys` where all pairs stay; tests show that they succeed. How many nodes `update` and `remove` copy depends on who
@@ -30,6 +30,7 @@ mod dictionary;
 mod distinct;
 mod filtering;
 mod merging;
+mod questions;
 mod removal;
 mod tree;
 

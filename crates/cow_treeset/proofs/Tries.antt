@@ -132,12 +132,24 @@ get-member k ps = there ps ∙ sym (member-ascending k (keys ps))
 pub length-set : (ps : List Pair) → length (set_of ps) ≡ length ps
 length-set ps = length-ascending (keys ps) ∙ length-map ps (λ p. p.key)
 
-pub alike-set : (hash_of : Literal → ℕ) (hash : ℕ) (ps : List Pair) → alike hash_of hash (set_of ps) ≡ count_where (λ p. eqb (hash_of p.key) hash) ps
-alike-set hash_of hash ps = count_by-ascending (λ a. eqb (hash_of a) hash) (keys ps) ∙ counted ps
+-- how many keys pass a test
+pub count-set : (t : Literal → Bool) (ps : List Pair) → count_where (λ p. t p.key) ps ≡ count_by t (set_of ps)
+count-set t ps = sym (count_by-ascending t (keys ps) ∙ counted ps)
   where
-    counted : (ps : List Pair) → count_by (λ a. eqb (hash_of a) hash) (keys ps) ≡ count_where (λ p. eqb (hash_of p.key) hash) ps
+    counted : (ps : List Pair) → count_by t (keys ps) ≡ count_where (λ p. t p.key) ps
     counted [] = refl
-    counted (p ∷ ps) = sum_by-cons (λ a. cond (eqb (hash_of a) hash) 1 0) p.key (keys ps) ∙ ap (λ n. cond (eqb (hash_of p.key) hash) 1 0 + n) (counted ps)
+    counted (p ∷ ps) = sum_by-cons (λ a. cond (t a) 1 0) p.key (keys ps) ∙ ap (λ n. cond (t p.key) 1 0 + n) (counted ps)
+
+pub few-pass : (t : Pair → Bool) (ps : List Pair) → count_where t ps ≤ length ps
+few-pass t [] = omega arith
+few-pass t (p ∷ ps) = omega (arith, one (t p), few-pass t ps)
+  where
+    one : (b : Bool) → cond b 1 0 ≤ 1
+    one true = omega arith
+    one false = omega arith
+
+pub alike-set : (hash_of : Literal → ℕ) (hash : ℕ) (ps : List Pair) → alike hash_of hash (set_of ps) ≡ count_where (λ p. eqb (hash_of p.key) hash) ps
+alike-set hash_of hash ps = sym (count-set (λ a. eqb (hash_of a) hash) ps)
 
 pub all-set : (t : Literal → Bool) (ps : List Pair) → list_all (λ p. t p.key) ps ≡ list_all t (set_of ps)
 all-set t ps = each ps ∙ all-alike t t (keys ps) (set_of ps) (λ q. sym (member-ascending q (keys ps))) (λ q. refl)

@@ -17,8 +17,9 @@
 //! The last parameter of the type is the root's node type. Whatever works on trees is generic in it, and a `Task` of
 //! `cow_levels` makes it; [`Tree`] is the type that it then is.
 //!
-//! `set` has the type and its calls, `removal` the one by which a member goes, `algebra` what two sets make, `distinct` the
-//! keys that `from_keys` builds a trie of, `copies` those of other changes, and `tree` the type of a root.
+//! `set` has the type and its calls, `removal` the one by which a member goes, `algebra` what two sets make, `counts` how
+//! many members would come, `distinct` the keys that `from_keys` builds a trie of, `copies` those of other changes, and
+//! `tree` the type of a root.
 //!
 //! Every call that takes memory may always answer want of it by its contract; tests show that they succeed. How many nodes
 //! `insert` and `remove` copy depends on who else holds them, so their contracts bound the copies of an alone set too, and
@@ -27,6 +28,7 @@
 
 mod algebra;
 mod copies;
+mod counts;
 mod distinct;
 mod removal;
 mod set;

@@ -180,8 +180,10 @@ impl<K: Key<Q>, Q: Stock, C: Level<K, (), Q>> TreeSet<K, Q, C> {
 
     /// Whether `k`, or the key that it stands for, is a member: Swift's `contains`.
     pub fn contains<E: Equivalent<K, Q>>(&self, k: &E) -> bool
-        ensures { result ≡ member (E.sought k.now) self.now.value }
+        ensures value { result ≡ member (E.sought k.now) self.now.value }
+        ensures distinct { Ascends self.now.value }
     {
+        let _ = &self.root;
         self.has(k.sought_hash(), k)
     }
 
