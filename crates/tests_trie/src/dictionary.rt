@@ -24,7 +24,7 @@ fn can_pay<Q: Stock, C: Level<i64, i64, Q>>(
 }
 
 /// Puts one value: what stood there.
-fn put<Q: Stock, C: Level<i64, i64, Q>>(
+pub(crate) fn put<Q: Stock, C: Level<i64, i64, Q>>(
     t: &mut TreeDictionary<i64, i64, Q, C>,
     k: i64,
     v: i64,
@@ -37,7 +37,7 @@ fn put<Q: Stock, C: Level<i64, i64, Q>>(
 }
 
 /// Puts a value under each of these keys, which is the key's place.
-fn put_all<Q: Stock, C: Level<i64, i64, Q>>(
+pub(crate) fn put_all<Q: Stock, C: Level<i64, i64, Q>>(
     t: &mut TreeDictionary<i64, i64, Q, C>,
     keys: &[i64],
     h: &mut Holder<Q>,

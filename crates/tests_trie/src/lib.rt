@@ -6,6 +6,8 @@ mod dictionary;
 #[cfg(test)]
 mod making;
 #[cfg(test)]
+mod nodes;
+#[cfg(test)]
 mod removing;
 #[cfg(test)]
 mod threads;
